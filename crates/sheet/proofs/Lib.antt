@@ -1,0 +1,5 @@
+pub mod Accepting
+pub mod Digits
+pub mod Inverting
+pub mod Reading
+pub mod Writing
