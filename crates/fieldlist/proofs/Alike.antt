@@ -1,5 +1,5 @@
 -- What is written again stands at the front of the buffer.
-use mathlib.Core.Path.{_≡_, refl, sym, ap, _∙_}
+use mathlib.Core.Path.{_≡_, refl, ap, _∙_}
 use mathlib.Core.List.{List, _++_}
 use Prim.Native.Nat.{ℕ, _-_, _≤_}
 use native.Mathlib.Omega.{arith}
@@ -7,7 +7,7 @@ use native.Mathlib.Nat.{le-refl}
 use lib.ListN.{length, take, drop}
 use Rattle.std.proofs.shelf.Lists.{take-all, take-at}
 use Rattle.std.specs.declared.result.Result.{Result}
-use Rattle.std.specs.declared.result.Result.the-variants.{Ok, Err}
+use Rattle.std.specs.declared.result.Result.the-variants.{Ok}
 use Rattle.sheet.specs.declared.fault.Fault.{Fault}
 use Rattle.sheet.specs.Encoding.{Written, encode}
 use Rattle.sheet.specs.Fields.{Content}

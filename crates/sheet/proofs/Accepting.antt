@@ -1,29 +1,26 @@
 -- The bytes of a well-formed field are read as that field.
-use mathlib.Core.Path.{_≡_, refl, sym, ap, _∙_}
-use mathlib.Core.Bool.{Bool, true, false, cond}
-use mathlib.Core.List.{List, [], _∷_, _++_}
-use Prim.Native.Nat.{ℕ, suc, _+_, _*_, _-_, _/_, _%_, _<_, _≤_}
+use mathlib.Core.Path.{_≡_, refl, ap, _∙_}
+use mathlib.Core.Bool.{true, false}
+use mathlib.Core.List.{List, _∷_, _++_}
+use Prim.Native.Nat.{ℕ, suc, _+_, _-_, _≤_}
 use native.Mathlib.Omega.{arith}
-use lib.Dec.{eqb, ltb}
+use lib.Dec.{ltb}
 use lib.ListN.{length, getD, take, drop, length-append}
 use borrow.Author.Tests.{le-ltb}
 use Rattle.std.proofs.shelf.Lists.{take-at, drop-at}
 use Rattle.std.specs.declared.result.Result.{Result}
-use Rattle.std.specs.declared.result.Result.the-variants.{Ok, Err}
+use Rattle.std.specs.declared.result.Result.the-variants.{Ok}
 use Rattle.sheet.specs.declared.fault.Cause.{Cause}
-use Rattle.sheet.specs.declared.fault.Cause.the-variants.{CutShort}
-use Rattle.sheet.specs.declared.row.Row.{Row}
 use Rattle.sheet.specs.declared.row.Row.the-variants.{Span, Same, Unlike}
 use Rattle.sheet.specs.declared.term.Form.{Form}
 use Rattle.sheet.specs.declared.term.Form.the-variants.{Name, One, Two}
 use Rattle.sheet.specs.declared.term.Kind.{Kind}
 use Rattle.sheet.specs.declared.term.Kind.the-variants.{Dated, Level}
-use Rattle.sheet.specs.declared.term.Term.{Term}
 use Rattle.sheet.specs.Causes.{inLayer, readerLetter}
-use Rattle.sheet.specs.Fields.{Content, termField, rowField, kindByte, formBytes, termBytes, tagOf, bodyOf, bytesOf, isLabel}
-use Rattle.sheet.specs.Parsing.{andThen, statedLength, kindAt, formAt, labelAt, termIn, contentIn, fieldIn, parse, restAfter, remaining}
+use Rattle.sheet.specs.Fields.{Content, termField, rowField, kindByte, formBytes, tagOf, bodyOf, bytesOf, isLabel}
+use Rattle.sheet.specs.Parsing.{andThen, statedLength, kindAt, formAt, labelAt, termIn, contentIn, fieldIn, restAfter, remaining}
 use Rattle.sheet.specs.RoundTrips.{WellFormed}
-use Rattle.sheet.specs.Terms.{wellLettered, isTableLetter}
+use Rattle.sheet.specs.Terms.{wellLettered}
 use Rattle.sheet.proofs.Digits.{bound-from-digits}
 
 kind-read : (k : Kind) → kindAt (kindByte k) ≡ Ok k
@@ -49,14 +46,19 @@ two-bytes b Name l = omega arith
 two-bytes b (One a x) l = omega arith
 two-bytes b (Two a x y) l = omega arith
 
+-- kind and form are read: the label decides
+pub term-by-label : (b : List ℕ) (k : Kind) (g : Form) → kindAt (getD b 0 0) ≡ Ok k → formAt b ≡ Ok g → termIn b ≡ andThen (labelAt (drop (1 + length (formBytes g)) b)) (λ l. Ok (termField (record { kind = k; form = g }) l))
+term-by-label b k g hk hg =
+    ap (λ r. andThen r (λ k. andThen (formAt b) (λ g. andThen (labelAt (drop (1 + length (formBytes g)) b)) (λ l. Ok (termField (record { kind = k; form = g }) l))))) hk
+    ∙ ap (λ r. andThen r (λ g. andThen (labelAt (drop (1 + length (formBytes g)) b)) (λ l. Ok (termField (record { kind = k; form = g }) l)))) hg
+
 term-read : (k : Kind) (g : Form) (l : List ℕ) → wellLettered g ≡ true → isLabel l ≡ true → termIn (kindByte k ∷ (formBytes g ++ l)) ≡ Ok (termField (record { kind = k; form = g }) l)
 term-read k g l letter label =
-    let b = kindByte k ∷ (formBytes g ++ l) in
+    let finish : List ℕ → Result Content Cause = λ l. Ok (termField (record { kind = k; form = g }) l) in
     let labelled : labelAt l ≡ Ok l = rw label in
-    ap (λ r. andThen r (λ k. andThen (formAt b) (λ g. andThen (labelAt (drop (1 + length (formBytes g)) b)) (λ l. Ok (termField (record { kind = k; form = g }) l))))) (kind-read k)
-    ∙ ap (λ r. andThen r (λ g. andThen (labelAt (drop (1 + length (formBytes g)) b)) (λ l. Ok (termField (record { kind = k; form = g }) l)))) (form-read (kindByte k) g l letter)
-    ∙ ap (λ r. andThen (labelAt r) (λ l. Ok (termField (record { kind = k; form = g }) l))) (label-left (kindByte k) g l)
-    ∙ ap (λ r. andThen r (λ l. Ok (termField (record { kind = k; form = g }) l))) labelled
+    term-by-label (kindByte k ∷ (formBytes g ++ l)) k g (kind-read k) (form-read (kindByte k) g l letter)
+    ∙ ap (λ r. andThen (labelAt r) finish) (label-left (kindByte k) g l)
+    ∙ ap (λ r. andThen r finish) labelled
 
 pub content-read : (f : Content) → WellFormed f → contentIn (tagOf f) (bodyOf f) ≡ Ok f
 content-read (termField t l) w =

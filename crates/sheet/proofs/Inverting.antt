@@ -3,14 +3,13 @@ use mathlib.Core.Path.{_≡_, refl, sym, ap, subst, _∙_}
 use mathlib.Core.Bool.{Bool, true, false, cond}
 use mathlib.Core.List.{List, [], _∷_, _++_}
 use mathlib.Core.Logic.{_⊎_, inl, inr, ⊎-elim}
-use Prim.Native.Nat.{ℕ, suc, _+_, _*_, _-_, _/_, _%_, _<_, _≤_}
+use Prim.Native.Nat.{ℕ, zero, suc, _+_, _-_, _/_, _%_, _<_, _≤_}
 use native.Mathlib.Omega.{arith}
 use lib.Dec.{eqb, ltb}
 use lib.ListN.{length, getD, take, drop}
-use mir.Val.{toZ}
 use mir.Syntax.{w32}
 use borrow.Author.Gap.{read-sfits}
-use Rattle.std.proofs.shelf.Lists.{drop-more, drop-all, length-take, length-drop, take-append-drop, getD-take, getD-drop, getD-past}
+use Rattle.std.proofs.shelf.Lists.{drop-more, drop-all, length-take, length-drop, getD-take, getD-drop, getD-past}
 use Rattle.std.proofs.shelf.Tests.{eqb-true, ltb-false, cases-lt}
 use Rattle.std.specs.declared.result.Result.{Result}
 use Rattle.std.specs.declared.result.Result.the-variants.{Ok, Err}
@@ -21,8 +20,6 @@ use Rattle.sheet.specs.declared.row.Row.the-variants.{Span, Same, Unlike}
 use Rattle.sheet.specs.declared.term.Form.{Form}
 use Rattle.sheet.specs.declared.term.Form.the-variants.{Name, One, Two}
 use Rattle.sheet.specs.declared.term.Kind.{Kind}
-use Rattle.sheet.specs.declared.term.Kind.the-variants.{Dated, Level}
-use Rattle.sheet.specs.declared.term.Term.{Term}
 use Rattle.sheet.specs.Fields.{Content, termField, rowField, kindByte, formBytes, tagOf, bodyOf, bytesOf, isLabel}
 use Rattle.sheet.specs.Parsing.{andThen, statedLength, kindAt, appliedAt, formAt, labelAt, termIn, boundIn, contentIn, fieldIn}
 use Rattle.sheet.specs.RoundTrips.{WellFormed}
@@ -55,9 +52,21 @@ between (Err c) e = never e
 same-ok : {X : Type 0} {x y : X} → _≡_ {A = Result X Cause} (Ok x) (Ok y) → x ≡ y
 same-ok e = cc
 
--- a list from its place i on, by its first element
-next : (b : List ℕ) (i : ℕ) → i < length b → drop i b ≡ getD b i 0 ∷ drop (i + 1) b
-next b i h = drop-more b i 0 h
+-- k elements, from place i on
+abbrev elementsAt : ℕ → ℕ → List ℕ → List ℕ
+elementsAt zero i b = []
+elementsAt (suc k) i b = getD b i 0 ∷ elementsAt k (i + 1) b
+
+-- a list from its place i on, by its next k elements
+unrolled : (k i : ℕ) (b : List ℕ) → i + k ≤ length b → drop i b ≡ elementsAt k i b ++ drop (i + k) b
+unrolled zero i b h = let e : i ≡ i + 0 = omega arith in ap (λ n. drop n b) e
+unrolled (suc k) i b h =
+    let e : i + 1 + k ≡ i + suc k = omega arith in
+    drop-more b i 0 (omega arith) ∙ ap (λ x. getD b i 0 ∷ x) (unrolled k (i + 1) b (omega arith) ∙ ap (λ n. elementsAt k (i + 1) b ++ drop n b) e)
+
+-- a list of k elements, by its elements
+all-of : (k : ℕ) (b : List ℕ) → length b ≡ k → b ≡ elementsAt k 0 b ++ []
+all-of k b h = unrolled k 0 b (omega arith) ∙ ap (λ x. elementsAt k 0 b ++ x) (drop-all (0 + k) b (omega arith))
 
 kind-back : (b : ℕ) (k : Kind) → kindAt b ≡ Ok k → kindByte k ≡ b
 kind-back b k e =
@@ -72,19 +81,13 @@ record FormBack (b : List ℕ) (g : Form) : Type 0 where
   bytes : drop 1 b ≡ formBytes g ++ drop (1 + length (formBytes g)) b
 
 name-back : (b : List ℕ) → 2 ≤ length b → getD b 1 0 ≡ 78 → FormBack b Name
-name-back b h e = record { letter = refl; bytes = next b 1 (omega arith) ∙ ap (λ x. x ∷ drop 2 b) e }
+name-back b h e = record { letter = refl; bytes = unrolled 1 1 b h ∙ ap (λ x. x ∷ drop 2 b) e }
 
-one-back : (b : List ℕ) → getD b 1 0 ≡ 49 → 4 ≤ length b → isTableLetter (getD b 2 0) ≡ true → FormBack b (One (getD b 2 0) (getD b 3 0))
-one-back b e h t = record {
-  letter = t;
-  bytes = next b 1 (omega arith) ∙ ap (λ x. x ∷ drop 2 b) e ∙ ap (λ x. 49 ∷ x) (next b 2 (omega arith) ∙ ap (λ x. getD b 2 0 ∷ x) (next b 3 (omega arith)));
-}
+one-back : (b : List ℕ) → 4 ≤ length b → getD b 1 0 ≡ 49 → isTableLetter (getD b 2 0) ≡ true → FormBack b (One (getD b 2 0) (getD b 3 0))
+one-back b h e t = record { letter = t; bytes = unrolled 3 1 b h ∙ ap (λ x. x ∷ getD b 2 0 ∷ getD b 3 0 ∷ drop 4 b) e }
 
-two-back : (b : List ℕ) → getD b 1 0 ≡ 50 → 5 ≤ length b → isTableLetter (getD b 2 0) ≡ true → FormBack b (Two (getD b 2 0) (getD b 3 0) (getD b 4 0))
-two-back b e h t = record {
-  letter = t;
-  bytes = next b 1 (omega arith) ∙ ap (λ x. x ∷ drop 2 b) e ∙ ap (λ x. 50 ∷ x) (next b 2 (omega arith) ∙ ap (λ x. getD b 2 0 ∷ x) (next b 3 (omega arith) ∙ ap (λ x. getD b 3 0 ∷ x) (next b 4 (omega arith))));
-}
+two-back : (b : List ℕ) → 5 ≤ length b → getD b 1 0 ≡ 50 → isTableLetter (getD b 2 0) ≡ true → FormBack b (Two (getD b 2 0) (getD b 3 0) (getD b 4 0))
+two-back b h e t = record { letter = t; bytes = unrolled 4 1 b h ∙ ap (λ x. x ∷ getD b 2 0 ∷ getD b 3 0 ∷ getD b 4 0 ∷ drop 5 b) e }
 
 -- a table's letter and its arguments are there
 applied-back : (b : List ℕ) (size : ℕ) (f g : Form) → appliedAt b size f ≡ Ok g → (size ≤ length b) × (isTableLetter (getD b 2 0) ≡ true) × (f ≡ g)
@@ -93,17 +96,18 @@ applied-back b size f g e =
     let lettered = passed (isTableLetter (getD b 2 0)) MalformedTerm (long .1) in
     (ltb-false (length b) size (long .0), lettered .0, same-ok (lettered .1))
 
+applied-form-back : (b : List ℕ) (g : Form) → cond (eqb (getD b 1 0) 49) (appliedAt b 4 (One (getD b 2 0) (getD b 3 0))) (cond (eqb (getD b 1 0) 50) (appliedAt b 5 (Two (getD b 2 0) (getD b 3 0) (getD b 4 0))) (Err MalformedTerm)) ≡ Ok g → FormBack b g
+applied-form-back b g e =
+    ⊎-elim
+    (λ o. let a = applied-back b 4 (One (getD b 2 0) (getD b 3 0)) g (o .1) in subst (FormBack b) (a .2) (one-back b (a .0) (eqb-true (getD b 1 0) 49 (o .0)) (a .1)))
+    (λ m. let t = passed (eqb (getD b 1 0) 50) MalformedTerm (m .1) in let a = applied-back b 5 (Two (getD b 2 0) (getD b 3 0) (getD b 4 0)) g (t .1) in subst (FormBack b) (a .2) (two-back b (a .0) (eqb-true (getD b 1 0) 50 (t .0)) (a .1)))
+    (ways (eqb (getD b 1 0) 49) e)
+
 form-back : (b : List ℕ) (g : Form) → 2 ≤ length b → formAt b ≡ Ok g → FormBack b g
 form-back b g h e =
     ⊎-elim
     (λ n. subst (FormBack b) (same-ok (n .1)) (name-back b h (eqb-true (getD b 1 0) 78 (n .0))))
-    (λ m. ⊎-elim
-    (λ o. let a = applied-back b 4 (One (getD b 2 0) (getD b 3 0)) g (o .1) in
-    subst (FormBack b) (a .2) (one-back b (eqb-true (getD b 1 0) 49 (o .0)) (a .0) (a .1)))
-    (λ m. let t = passed (eqb (getD b 1 0) 50) MalformedTerm (m .1) in
-    let a = applied-back b 5 (Two (getD b 2 0) (getD b 3 0) (getD b 4 0)) g (t .1) in
-    subst (FormBack b) (a .2) (two-back b (eqb-true (getD b 1 0) 50 (t .0)) (a .0) (a .1)))
-    (ways (eqb (getD b 1 0) 49) (m .1)))
+    (λ m. applied-form-back b g (m .1))
     (ways (eqb (getD b 1 0) 78) e)
 
 -- a content that was read: it is well-formed, and it stands there
@@ -126,50 +130,49 @@ term-back b f h e =
     let made : termField (record { kind = k; form = g }) l ≡ f = same-ok (labelled .2) in
     let body : kindByte k ∷ (formBytes g ++ l) ≡ b =
     (λ i. kind-back (getD b 0 0) k (kinded .1) i ∷ (formBytes g ++ sym (same-ok (is .1)) i))
-    ∙ ap (λ x. getD b 0 0 ∷ x) (sym (back .bytes)) ∙ sym (next b 0 (omega arith)) in
+    ∙ ap (λ x. getD b 0 0 ∷ x) (sym (back .bytes)) ∙ sym (unrolled 1 0 b (omega arith)) in
     subst (ContentBack 84 b) made (record {
       sound = (back .letter, ap isLabel (sym (same-ok (is .1))) ∙ is .0);
       tagged = refl;
       body = body;
     })
 
--- the elements of a list of two, from their places
-two-of : (b : List ℕ) → length b ≡ 2 → b ≡ getD b 0 0 ∷ getD b 1 0 ∷ []
-two-of b h = next b 0 (omega arith) ∙ ap (λ x. getD b 0 0 ∷ x) (next b 1 (omega arith) ∙ ap (λ x. getD b 1 0 ∷ x) (drop-all 2 b (omega arith)))
-
--- the same of six
-six-of : (b : List ℕ) → length b ≡ 6 → b ≡ getD b 0 0 ∷ getD b 1 0 ∷ getD b 2 0 ∷ getD b 3 0 ∷ getD b 4 0 ∷ getD b 5 0 ∷ []
-six-of b h =
-    next b 0 (omega arith) ∙ ap (λ x. getD b 0 0 ∷ x) (next b 1 (omega arith)
-    ∙ ap (λ x. getD b 1 0 ∷ x) (next b 2 (omega arith) ∙ ap (λ x. getD b 2 0 ∷ x) (next b 3 (omega arith)
-    ∙ ap (λ x. getD b 3 0 ∷ x) (next b 4 (omega arith) ∙ ap (λ x. getD b 4 0 ∷ x) (next b 5 (omega arith)
-    ∙ ap (λ x. getD b 5 0 ∷ x) (drop-all 6 b (omega arith)))))))
-
 span-back : (b : List ℕ) → ((i : ℕ) → getD b i 0 < 256) → length b ≡ 6 → ContentBack 83 b (rowField (Span (getD b 0 0) (getD b 1 0) (boundIn b)))
 span-back b small h = record {
   sound = read-sfits w32 _;
   tagged = refl;
-  body = ap (λ x. getD b 0 0 ∷ getD b 1 0 ∷ x) (bound-to-digits (getD b 2 0) (getD b 3 0) (getD b 4 0) (getD b 5 0) (small 2) (small 3) (small 4) (small 5)) ∙ sym (six-of b h);
+  body = ap (λ x. getD b 0 0 ∷ getD b 1 0 ∷ x) (bound-to-digits (getD b 2 0) (getD b 3 0) (getD b 4 0) (getD b 5 0) (small 2) (small 3) (small 4) (small 5)) ∙ sym (all-of 6 b h);
 }
 
-content-back : (tag : ℕ) (b : List ℕ) (f : Content) → ((i : ℕ) → getD b i 0 < 256) → contentIn tag b ≡ Ok f → ContentBack tag b f
-content-back tag b f small e =
-    let at : (n : ℕ) → eqb tag n ≡ true → ContentBack n b f → ContentBack tag b f = λ n h. subst (λ m. ContentBack m b f) (sym (eqb-true tag n h)) in
-    ⊎-elim
-    (λ t. let long = failed (ltb (length b) 2) WrongLength (t .1) in
-    at 84 (t .0) (term-back b f (ltb-false (length b) 2 (long .0)) (long .1)))
-    (λ m. ⊎-elim
-    (λ t. let long = passed (eqb (length b) 6) WrongLength (t .1) in
-    at 83 (t .0) (subst (ContentBack 83 b) (same-ok (long .1)) (span-back b small (eqb-true (length b) 6 (long .0)))))
-    (λ m. ⊎-elim
-    (λ t. let long = passed (eqb (length b) 2) WrongLength (t .1) in
-    at 69 (t .0) (subst (ContentBack 69 b) (same-ok (long .1)) (record { sound = tt; tagged = refl; body = sym (two-of b (eqb-true (length b) 2 (long .0))) })))
-    (λ m. let t = passed (eqb tag 85) UnknownTag (m .1) in
-    let long = passed (eqb (length b) 2) WrongLength (t .1) in
-    at 85 (t .0) (subst (ContentBack 85 b) (same-ok (long .1)) (record { sound = tt; tagged = refl; body = sym (two-of b (eqb-true (length b) 2 (long .0))) })))
-    (ways (eqb tag 69) (m .1)))
-    (ways (eqb tag 83) (m .1)))
-    (ways (eqb tag 84) e)
+same-back : (b : List ℕ) → length b ≡ 2 → ContentBack 69 b (rowField (Same (getD b 0 0) (getD b 1 0)))
+same-back b h = record { sound = tt; tagged = refl; body = sym (all-of 2 b h) }
+
+unlike-back : (b : List ℕ) → length b ≡ 2 → ContentBack 85 b (rowField (Unlike (getD b 0 0) (getD b 1 0)))
+unlike-back b h = record { sound = tt; tagged = refl; body = sym (all-of 2 b h) }
+
+-- a row of the length that its tag asks for
+row-back : (tag n : ℕ) (b : List ℕ) (r : Row) (f : Content) → cond (eqb (length b) n) (Ok (rowField r)) (Err WrongLength) ≡ Ok f → (length b ≡ n → ContentBack tag b (rowField r)) → ContentBack tag b f
+row-back tag n b r f e back =
+    let long = passed (eqb (length b) n) WrongLength e in
+    subst (ContentBack tag b) (same-ok (long .1)) (back (eqb-true (length b) n (long .0)))
+
+module _ (tag : ℕ) (b : List ℕ) (f : Content) (small : (i : ℕ) → getD b i 0 < 256) where
+  at : (n : ℕ) → eqb tag n ≡ true → ContentBack n b f → ContentBack tag b f
+  at n h = subst (λ m. ContentBack m b f) (sym (eqb-true tag n h))
+
+  pair-back : cond (eqb tag 69) (cond (eqb (length b) 2) (Ok (rowField (Same (getD b 0 0) (getD b 1 0)))) (Err WrongLength)) (cond (eqb tag 85) (cond (eqb (length b) 2) (Ok (rowField (Unlike (getD b 0 0) (getD b 1 0)))) (Err WrongLength)) (Err UnknownTag)) ≡ Ok f → ContentBack tag b f
+  pair-back e =
+      ⊎-elim
+      (λ t. at 69 (t .0) (row-back 69 2 b (Same (getD b 0 0) (getD b 1 0)) f (t .1) (same-back b)))
+      (λ m. let t = passed (eqb tag 85) UnknownTag (m .1) in at 85 (t .0) (row-back 85 2 b (Unlike (getD b 0 0) (getD b 1 0)) f (t .1) (unlike-back b)))
+      (ways (eqb tag 69) e)
+
+  content-back : contentIn tag b ≡ Ok f → ContentBack tag b f
+  content-back e =
+      ⊎-elim
+      (λ t. let long = failed (ltb (length b) 2) WrongLength (t .1) in at 84 (t .0) (term-back b f (ltb-false (length b) 2 (long .0)) (long .1)))
+      (λ m. ⊎-elim (λ t. at 83 (t .0) (row-back 83 6 b (Span (getD b 0 0) (getD b 1 0) (boundIn b)) f (t .1) (span-back b small))) (λ m. pair-back (m .1)) (ways (eqb tag 83) (m .1)))
+      (ways (eqb tag 84) e)
 
 -- a part of a run of bytes is one too
 part-small : (s : List ℕ) (n i : ℕ) → ((i : ℕ) → getD s i 0 < 256) → getD (take n (drop 3 s)) i 0 < 256
@@ -183,8 +186,7 @@ part-small s n i small =
 front-of : (s : List ℕ) (n : ℕ) → 3 ≤ length s → take (3 + n) s ≡ getD s 0 0 ∷ getD s 1 0 ∷ getD s 2 0 ∷ take n (drop 3 s)
 front-of s n h =
     let m : 3 + n ≡ suc (suc (suc n)) = omega arith in
-    let headed : s ≡ getD s 0 0 ∷ getD s 1 0 ∷ getD s 2 0 ∷ drop 3 s =
-    next s 0 (omega arith) ∙ ap (λ x. getD s 0 0 ∷ x) (next s 1 (omega arith) ∙ ap (λ x. getD s 1 0 ∷ x) (next s 2 (omega arith))) in
+    let headed : s ≡ getD s 0 0 ∷ getD s 1 0 ∷ getD s 2 0 ∷ drop 3 s = unrolled 3 0 s h in
     (λ i. take (m i) (headed i))
 
 -- a field that was read: it is well-formed, and its bytes are the front of the sheet

@@ -1,14 +1,12 @@
 -- Which way `parse` goes, from what the code has tested.
-use mathlib.Core.Path.{_≡_, refl, sym, ap, _∙_}
+use mathlib.Core.Path.{_≡_, sym, ap, _∙_}
 use mathlib.Core.Bool.{Bool, true, false, cond}
 use mathlib.Core.List.{List}
 use Prim.Native.Nat.{ℕ, _+_, _-_, _<_, _≤_}
 use native.Mathlib.Omega.{arith}
-use lib.Dec.{ltb}
 use lib.ListN.{length, getD, take, drop}
 use mir.Val.{Fits}
 use mir.Syntax.{w8}
-use borrow.Author.Tests.{le-ltb}
 use Rattle.std.proofs.shelf.Lists.{take-rest, drop-drop, length-drop}
 use Rattle.std.proofs.shelf.Parts.{between-to-end}
 use Rattle.std.specs.Results.{Cases}
@@ -24,7 +22,7 @@ use Rattle.sheet.specs.Fields.{Content, termField, contentOf, formBytes, isLab
 use Rattle.sheet.specs.Causes.{inLayer, readerLetter}
 use Rattle.sheet.specs.Parsing.{andThen, kindAt, formAt, labelAt, termIn, contentIn, fieldIn, outcome, parse, remaining, restAfter, statedLength}
 use Rattle.sheet.specs.RoundTrips.{ReadRight, ReadsAll}
-use Rattle.sheet.proofs.Accepting.{field-by-content, field-read}
+use Rattle.sheet.proofs.Accepting.{field-by-content, field-read, term-by-label}
 use Rattle.sheet.proofs.Inverting.{FieldBack, field-back}
 use Rattle.sheet.proofs.Writing.{gives-back}
 
@@ -36,15 +34,13 @@ tested : (l : List ℕ) (finish : List ℕ → Result Content Cause) (t : Bool) 
 tested l finish true h = rw (← h)
 tested l finish false h = rw (← h)
 
--- kind and form are read, and the label is tested
-pub term-by-label : (b : List ℕ) (k : Kind) (f : Form) (n : ℕ) (t : Bool) → Ok k ≡ kindAt (getD b 0 0) → Ok f ≡ formAt b → n ≡ length (formBytes f) → t ≡ isLabel (take (length b - (1 + n)) (drop (1 + n) b)) → cond t (Ok (termField (record { kind = k; form = f }) (take (length b - (1 + n)) (drop (1 + n) b)))) (Err BadLabel) ≡ termIn b
-term-by-label b k f n t hk hf hn ht =
-    let l = take (length b - (1 + n)) (drop (1 + n) b) in
+-- kind and form are read, and the label is tested. `&b[i..]` is `take (length b - i) (drop i b)`
+pub term-found : (b : List ℕ) (k : Kind) (f : Form) (n : ℕ) (t : Bool) → Ok k ≡ kindAt (getD b 0 0) → Ok f ≡ formAt b → n ≡ length (formBytes f) → t ≡ isLabel (take (length b - (1 + n)) (drop (1 + n) b)) → cond t (Ok (termField (record { kind = k; form = f }) (take (length b - (1 + n)) (drop (1 + n) b)))) (Err BadLabel) ≡ termIn b
+term-found b k f n t hk hf hn ht =
     let finish : List ℕ → Result Content Cause = λ l. Ok (termField (record { kind = k; form = f }) l) in
-    tested l finish t ht
-    ∙ ap (λ l. andThen (labelAt l) finish) (between-to-end b (1 + n) (length b) (omega arith) ∙ ap (λ m. drop (1 + m) b) hn)
-    ∙ ap (λ r. andThen r (λ g. andThen (labelAt (drop (1 + length (formBytes g)) b)) (λ l. Ok (termField (record { kind = k; form = g }) l)))) hf
-    ∙ ap (λ r. andThen r (λ k. andThen (formAt b) (λ g. andThen (labelAt (drop (1 + length (formBytes g)) b)) (λ l. Ok (termField (record { kind = k; form = g }) l))))) hk
+    tested (take (length b - (1 + n)) (drop (1 + n) b)) finish t ht
+    ∙ ap (λ l. andThen (labelAt l) finish) (take-rest b (1 + n) ∙ ap (λ m. drop (1 + m) b) hn)
+    ∙ sym (term-by-label b k f (sym hk) (sym hf))
 
 -- the lengths are tested: the content decides. `&s[3..]` is `take (length s - 3) (drop 3 s)`
 pub field-found : (s : List ℕ) (r : Result Content Cause) → 3 ≤ length s → statedLength s ≤ length (take (length s - 3) (drop 3 s)) → r ≡ contentIn (getD s 0 0) (take (statedLength s - 0) (take (length s - 3) (drop 3 s))) → r ≡ fieldIn s

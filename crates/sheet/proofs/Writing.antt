@@ -1,7 +1,7 @@
 -- What the writer leaves of a well-formed field.
 use mathlib.Core.Path.{_≡_, refl, sym, ap, _∙_}
 use mathlib.Core.Bool.{Bool, true, false, cond}
-use mathlib.Core.List.{List, [], _∷_, _++_}
+use mathlib.Core.List.{List, _++_}
 use Prim.Native.Nat.{ℕ, _+_, _-_, _<_, _≤_}
 use native.Mathlib.Omega.{arith}
 use lib.Dec.{ltb}
@@ -9,13 +9,12 @@ use lib.ListN.{length, take, drop, length-append}
 use borrow.Author.Tests.{le-ltb, lt-ltb}
 use borrow.Rule.Slice.PartMut.{putMid, postOf}
 use Rattle.std.proofs.shelf.Lists.{append-assoc, drop-at, drop-drop, length-take-le, take-at}
-use Rattle.std.specs.declared.result.Result.the-variants.{Ok, Err}
+use Rattle.std.specs.declared.result.Result.the-variants.{Ok}
 use Rattle.sheet.specs.declared.fault.Cause.{Cause}
 use Rattle.sheet.specs.declared.fault.Cause.the-variants.{BadLabel, BufferTooShort, MalformedTerm}
-use Rattle.sheet.specs.declared.fault.Fault.{Fault}
 use Rattle.sheet.specs.declared.row.Row.the-variants.{Span, Same, Unlike}
 use Rattle.sheet.specs.Causes.{inLayer, readerLetter}
-use Rattle.sheet.specs.Encoding.{Written, leaving, refused, put, written, encode}
+use Rattle.sheet.specs.Encoding.{Written, leaving, refused, put, written}
 use Rattle.sheet.specs.Fields.{Content, termField, rowField, bytesOf, isLabel}
 use Rattle.sheet.specs.Parsing.{parse, remaining}
 use Rattle.sheet.specs.RoundTrips.{WellFormed, RowFits, WrittenAgain, ReadBack}

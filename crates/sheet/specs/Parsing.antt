@@ -1,6 +1,6 @@
 -- What the bytes at the front of a sheet say. The tests stand in the order in which they are made.
-use mathlib.Core.Bool.{Bool, cond}
-use mathlib.Core.List.{List, []}
+use mathlib.Core.Bool.{cond}
+use mathlib.Core.List.{List}
 use Prim.Native.Nat.{ℕ, _+_, _*_}
 use lib.Dec.{eqb, ltb}
 use lib.IntN.{ℤ}
@@ -14,13 +14,11 @@ use Rattle.sheet.specs.declared.fault.Cause.{Cause}
 use Rattle.sheet.specs.declared.fault.Cause.the-variants.{CutShort, UnknownTag, WrongLength, MalformedTerm, BadLabel}
 use Rattle.sheet.specs.declared.fault.Fault.{Fault}
 use Rattle.sheet.specs.declared.field.Field.{Field}
-use Rattle.sheet.specs.declared.row.Row.{Row}
 use Rattle.sheet.specs.declared.row.Row.the-variants.{Span, Same, Unlike}
 use Rattle.sheet.specs.declared.term.Form.{Form}
 use Rattle.sheet.specs.declared.term.Form.the-variants.{Name, One, Two}
 use Rattle.sheet.specs.declared.term.Kind.{Kind}
 use Rattle.sheet.specs.declared.term.Kind.the-variants.{Dated, Level}
-use Rattle.sheet.specs.declared.term.Term.{Term}
 use Rattle.sheet.specs.Causes.{inLayer, readerLetter}
 use Rattle.sheet.specs.Fields.{Content, termField, rowField, contentOf, termTag, spanTag, sameTag, unlikeTag, kindByte, nameByte, oneByte, twoByte, formBytes, isLabel}
 use Rattle.sheet.specs.Terms.{isTableLetter}

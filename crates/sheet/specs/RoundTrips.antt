@@ -4,7 +4,6 @@ use mathlib.Core.Bool.{true}
 use mathlib.Core.List.{List, _++_}
 use Prim.Native.Nat.{ℕ, _+_, _≤_}
 use lib.ListN.{length, take, drop}
-use lib.IntN.{ℤ}
 use mir.Val.{SFits}
 use mir.Syntax.{w32}
 use Rattle.std.specs.declared.result.Result.{Result}
