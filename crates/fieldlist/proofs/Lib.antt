@@ -1,2 +1,2 @@
-pub mod Alike
+pub mod Comparing
 pub mod Walking

@@ -2,19 +2,21 @@
 use mathlib.Core.Path.{_≡_, refl, sym, ap, subst, _∙_}
 use mathlib.Core.List.{List, [], _∷_, _++_}
 use Prim.Native.Nat.{ℕ, _+_, _-_, _≤_}
-use native.Mathlib.Nat.{le-refl}
 use native.Mathlib.Omega.{arith}
 use lib.ListN.{length, take, drop}
-use Rattle.std.proofs.shelf.Lists.{drop-drop, length-take-le, nil-from-length, take-take}
+use lib.Seq.{take-add}
+use borrow.Rule.Slice.PartMut.{putMid}
+use Rattle.std.proofs.shelf.Lists.{append-assoc, drop-drop, length-append, length-drop, length-take, length-take-le, nil-from-length, take-all, take-at}
 use Rattle.std.specs.Results.{Cases}
 use Rattle.std.specs.declared.result.Result.{Result}
 use Rattle.std.specs.declared.result.Result.the-variants.{Ok}
 use Rattle.sheet.specs.declared.fault.Fault.{Fault}
 use Rattle.sheet.specs.declared.field.Field.{Field}
+use Rattle.sheet.specs.Encoding.{Written, encode}
 use Rattle.sheet.specs.Fields.{Content, contentOf}
 use Rattle.sheet.specs.Parsing.{outcome, parse, remaining, restAfter, statedLength}
 use Rattle.sheet.specs.RoundTrips.{ReadRight, WrittenAgain}
-use Rattle.fieldlist.specs.Listing.{Front, none, more}
+use Rattle.fieldlist.specs.WritingBack.{Alike, Front, none, more}
 
 -- t is left of s after n fields
 pub record Walked (s t : List ℕ) (n : ℕ) : Type 0 where
@@ -63,18 +65,61 @@ step s t u n m f w k more-one =
       place = ends ∙ ap (drop size) (w .place) ∙ drop-drop size p s ∙ ap (λ x. drop x s) sum;
     }
 
--- written again, it gives back the bytes that it took
-pub again-from-front : (t u : List ℕ) (f : Content) (m : ℕ) → Took t f u → m ≡ length t - length u → WrittenAgain (take m t) f (length (take m t))
-again-from-front t u f m k e =
+-- written again with room for it, it is found alike
+pub alike : (t u part : List ℕ) (f : Content) (m : ℕ) → Took t f u → m ≡ length t - length u → m ≤ length part → Alike (encode f part) (take m t)
+alike t u part f m k e room =
     let used = k .used in
     let size = 3 + statedLength t in
     let taken : m ≡ size = omega arith in
     let fits : size ≤ length t = omega arith in
     let long : length (take m t) ≡ size = ap (λ x. length (take x t)) taken ∙ length-take-le size t fits in
-    let same : take size (take m t) ≡ take size t = ap (λ x. take size (take x t)) taken ∙ take-take size size t (le-refl size) in
-    subst (λ x. WrittenAgain (take m t) f x) (sym long)
-    (λ out room. k .again out room ∙ ap (λ b. record { answer = Ok size; buffer = b ++ drop size out }) (sym same))
+    let held = k .again part (omega arith) in (
+      ap (λ (w : Written Fault). w .answer) held ∙ ap Ok (sym long),
+      (λ i. take (long i) (held i .buffer)) ∙ take-at (take size t) (drop size part) size (length-take-le size t fits) ∙ ap (λ x. take x t) (sym taken),
+    )
+
+-- the buffer b is as long as the sheet s, and alike up to where u is left of s
+pub record Copied (s u b : List ℕ) : Type 0 where
+  pub long : length b ≡ length s
+  pub same : take (length s - length u) b ≡ take (length s - length u) s
+
+-- written to the buffer from place p on, its bytes stand where they stand in the sheet. `old` was there, and `part` is there now
+pub copy : (s t u b old part : List ℕ) (f : Content) (p : ℕ) → Took t f u → t ≡ drop p s → length t ≤ length s → p ≡ length s - length t → Copied s t b → old ≡ drop p b → part ≡ encode f old .buffer → Copied s u (putMid p (length b - p) b part)
+copy s t u b old part f p k ends fits place before is after =
+    let used = k .used in
+    let b-long = before .long in
+    let size = 3 + statedLength t in
+    let sum : length s - length u ≡ p + size = omega arith in
+    let room : size ≤ length old = rw is (simp length-drop (omega arith)) in
+    let past : List ℕ = drop (length b - p) (drop p b) in
+    let gone : length past ≡ 0 = simp length-drop (omega arith) in
+    let held : part ≡ take size t ++ drop size old = after ∙ ap (λ (w : Written Fault). w .buffer) (k .again old room) in
+    let old-long : length old ≡ length b - p = ap length is ∙ length-drop p b in
+    let part-long : length part ≡ length b - p = ap length held ∙ simp (length-append, length-take, length-drop) (omega arith) in
+    let front : length (take p b ++ take size t) ≡ p + size = simp (length-append, length-take) (omega arith) in
+    let joined : take p b ++ (part ++ past) ≡ (take p b ++ take size t) ++ (drop size old ++ past) =
+    ap (λ x. take p b ++ (x ++ past)) held ∙ ap (λ x. take p b ++ x) (append-assoc (take size t) (drop size old) past) ∙ sym (append-assoc (take p b) (take size t) (drop size old ++ past)) in
+    let first : take p b ≡ take p s = ap (λ n. take n b) place ∙ before .same ∙ ap (λ n. take n s) (sym place) in
+    record {
+      long = simp (length-append, length-take) (omega arith);
+      same = (λ i. take (sum i) (joined i))
+          ∙ take-at (take p b ++ take size t) (drop size old ++ past) (p + size) front
+          ∙ (λ i. first i ++ take size (ends i))
+          ∙ sym (take-add p size s)
+          ∙ ap (λ n. take n s) (sym sum);
+    }
 
 -- nothing is left
 pub whole : (s t : List ℕ) (n : ℕ) → Walked s t n → length t ≡ 0 → (fs : List Content) × Front s fs [] × (n ≡ length fs)
 whole s t n w none-left = (w .fields, subst (Front s (w .fields)) (nil-from-length t none-left) (w .front), w .count)
+
+-- and the buffer holds the sheet
+pub all-copied : (s t b : List ℕ) → length t ≡ 0 → Copied s t b → b ≡ s
+all-copied s t b none-left c =
+    let long = c .long in
+    sym (take-all (length s - length t) b (omega arith)) ∙ c .same ∙ take-all (length s - length t) s (omega arith)
+
+pub none-copied : (s b : List ℕ) → length b ≡ length s → Copied s s b
+none-copied s b e =
+    let z : length s - length s ≡ 0 = omega arith in
+    record { long = e; same = ap (λ n. take n b) z ∙ ap (λ n. take n s) (sym z) }

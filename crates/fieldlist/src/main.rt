@@ -1,10 +1,16 @@
 // Lists the fields of a sheet in words, writes each back, and says which byte is wrong.
 mod listing;
 mod words;
+mod write_back;
 
-use crate::listing::Ending;
-use crate::listing::list_fields;
+ghost use Prim.Native.Nat.{_≤_};
+ghost use Rattle.std.specs.Of.Vec.{vec-len};
+ghost use Rattle.std.specs.Vec.{made};
+use crate::listing::print_fields;
+use crate::words::EndingDisplay;
 use crate::words::cause_in_words;
+use crate::write_back::Ending;
+use crate::write_back::write_fields_back;
 use std::env;
 use std::error::AnyError;
 use std::io;
@@ -34,8 +40,13 @@ fn run(rt: &LibcRuntime) -> Result<(), AnyError> {
         return Ok(());
     }
     let sheet = read_sheet(rt)?;
-    let ending = list_fields(rt, sheet.as_slice())?;
-    report_ending(rt, ending)?;
+    if sheet.is_empty() {
+        eprintln!(rt, "fieldlist: no bytes came in\n{HELP}")?;
+    }
+    let mut buffer = vec![in rt.alloc(); 0u8; sheet.len()]?;
+    let ending = write_fields_back(sheet.as_slice(), buffer.as_mut_slice());
+    print_fields(rt, sheet.as_slice())?;
+    print_ending(rt, ending)?;
     Ok(())
 }
 
@@ -50,42 +61,28 @@ fn asks_for_help(rt: &LibcRuntime) -> Result<bool, AnyError> {
     Ok(false)
 }
 
-// The first bytes of standard input. Where there are none, or more than are read, a person is told.
-fn read_sheet(rt: &LibcRuntime) -> io::Result<Vec<u8>> {
+// The first bytes of standard input. Where more may follow, a person is told that they are not read.
+fn read_sheet(rt: &LibcRuntime) -> io::Result<Vec<u8>>
+    ensures { λ r. ⌜ made r (λ v. vec-len v ≤ 8192) ⌝ }
+{
     let mut sheet = Vec::new(rt.alloc());
-    rt.stdin().take(LIMIT as u64 + 1).read_to_end(&mut sheet)?;
-    if sheet.is_empty() {
-        eprintln!(rt, "fieldlist: no bytes came in\n{HELP}")?;
-    }
-    if sheet.len() > LIMIT {
-        eprintln!(rt, "fieldlist: only the first {LIMIT} bytes are read")?;
-        sheet.truncate(LIMIT);
+    rt.stdin().take(LIMIT as u64).read_to_end(&mut sheet)?;
+    sheet.truncate(LIMIT);
+    if sheet.len() == LIMIT {
+        eprintln!(rt, "fieldlist: {LIMIT} bytes came in, and no more are read")?;
     }
     Ok(sheet)
 }
 
-fn report_ending(rt: &LibcRuntime, ending: Ending) -> io::Result<()> {
-    match ending {
-        Ending::Whole {
-            fields,
-            bytes,
-            fields_alike,
-            bytes_alike,
-        } => {
-            println!(
-                rt,
-                "{fields} fields and {bytes} bytes read, {fields_alike} fields and {bytes_alike} bytes written back alike"
-            )
-        }
-        Ending::Refused { fault, place } => {
-            let number = fault.cause.number();
-            let layer = fault.layer;
-            let why = cause_in_words(fault.cause);
-            println!(rt, "refused {number} {layer} {place}")?;
-            eprintln!(
-                rt,
-                "fieldlist: the field that starts at byte {place}: {why}"
-            )
-        }
+// The last line, and for a person the ground of a refusal.
+fn print_ending(rt: &LibcRuntime, ending: Ending) -> io::Result<()> {
+    println!(rt, "{ending}")?;
+    if let Ending::Refused { fault, place } = ending {
+        let why = cause_in_words(fault.cause);
+        eprintln!(
+            rt,
+            "fieldlist: the field that starts at byte {place}: {why}"
+        )?;
     }
+    Ok(())
 }

@@ -1,4 +1,7 @@
-// Fields and refusals in words.
+// Fields, endings and refusals in words.
+ghost use Rattle.fieldlist.specs.Lines.{lastLine};
+ghost use Rattle.std.specs.declared.option.Option.the-variants.{Some};
+use crate::write_back::Ending;
 use sheet::fault::Cause;
 use sheet::field::Field;
 use sheet::row::Row;
@@ -70,10 +73,36 @@ fn write_label<W: fmt::Write>(label: &[u8], f: &mut fmt::Formatter<W>) -> fmt::R
     Ok(())
 }
 
+// The last line of a listing.
+pub impl fmt::Display for Ending as EndingDisplay {
+    ghost shown = { λ e. Some (lastLine e) };
+
+    fn fmt<W: fmt::Write>(&self, f: &mut fmt::Formatter<W>) -> fmt::Result {
+        match *self {
+            Ending::Whole {
+                fields,
+                bytes,
+                fields_alike,
+                bytes_alike,
+            } => {
+                write!(
+                    f,
+                    "{fields} fields and {bytes} bytes read, {fields_alike} fields and {bytes_alike} bytes written back alike"
+                )
+            }
+            Ending::Refused { fault, place } => {
+                let number = fault.cause.number();
+                let layer = fault.layer;
+                write!(f, "refused {number} {layer} {place}")
+            }
+        }
+    }
+}
+
 // Why the reader refuses a field. It has no other ground than these five.
 pub fn cause_in_words(cause: Cause) -> &'static str {
     match cause {
-        Cause::CutShort => "the sheet ends before the field does",
+        Cause::CutShort => "the bytes that were read end before the field does",
         Cause::UnknownTag => "its tag is none of the letters T, S, E and U",
         Cause::WrongLength => "its length is not one that its tag can have",
         Cause::MalformedTerm =>
