@@ -18,12 +18,12 @@ use Rattle.sheet.specs.declared.term.Kind.{Kind}
 use Rattle.sheet.specs.declared.term.Kind.the-variants.{Dated, Level}
 use Rattle.sheet.specs.Causes.{inLayer, readerLetter}
 use Rattle.sheet.specs.Fields.{Content, termField, rowField, kindByte, formBytes, tagOf, bodyOf, bytesOf, isLabel}
-use Rattle.sheet.specs.Parsing.{andThen, statedLength, kindAt, formAt, labelAt, termIn, contentIn, fieldIn, restAfter, remaining}
+use Rattle.sheet.specs.Parsing.{andThen, statedLength, kindOf, formAt, labelAt, termIn, contentIn, fieldIn, restAfter, remaining}
 use Rattle.sheet.specs.RoundTrips.{WellFormed}
 use Rattle.sheet.specs.Terms.{wellLettered}
 use Rattle.sheet.proofs.Digits.{bound-from-digits}
 
-kind-read : (k : Kind) → kindAt (kindByte k) ≡ Ok k
+kind-read : (k : Kind) → kindOf (kindByte k) ≡ Ok k
 kind-read Dated = refl
 kind-read Level = refl
 
@@ -47,7 +47,7 @@ two-bytes b (One a x) l = omega arith
 two-bytes b (Two a x y) l = omega arith
 
 -- kind and form are read: the label decides
-pub term-by-label : (b : List ℕ) (k : Kind) (g : Form) → kindAt (getD b 0 0) ≡ Ok k → formAt b ≡ Ok g → termIn b ≡ andThen (labelAt (drop (1 + length (formBytes g)) b)) (λ l. Ok (termField (record { kind = k; form = g }) l))
+pub term-by-label : (b : List ℕ) (k : Kind) (g : Form) → kindOf (getD b 0 0) ≡ Ok k → formAt b ≡ Ok g → termIn b ≡ andThen (labelAt (drop (1 + length (formBytes g)) b)) (λ l. Ok (termField (record { kind = k; form = g }) l))
 term-by-label b k g hk hg =
     ap (λ r. andThen r (λ k. andThen (formAt b) (λ g. andThen (labelAt (drop (1 + length (formBytes g)) b)) (λ l. Ok (termField (record { kind = k; form = g }) l))))) hk
     ∙ ap (λ r. andThen r (λ g. andThen (labelAt (drop (1 + length (formBytes g)) b)) (λ l. Ok (termField (record { kind = k; form = g }) l)))) hg

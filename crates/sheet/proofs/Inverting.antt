@@ -21,7 +21,7 @@ use Rattle.sheet.specs.declared.term.Form.{Form}
 use Rattle.sheet.specs.declared.term.Form.the-variants.{Name, One, Two}
 use Rattle.sheet.specs.declared.term.Kind.{Kind}
 use Rattle.sheet.specs.Fields.{Content, termField, rowField, kindByte, formBytes, tagOf, bodyOf, bytesOf, isLabel}
-use Rattle.sheet.specs.Parsing.{andThen, statedLength, kindAt, appliedAt, formAt, labelAt, termIn, boundIn, contentIn, fieldIn}
+use Rattle.sheet.specs.Parsing.{andThen, statedLength, kindOf, appliedAt, formAt, labelAt, termIn, boundIn, contentIn, fieldIn}
 use Rattle.sheet.specs.RoundTrips.{WellFormed}
 use Rattle.sheet.specs.Terms.{wellLettered, isTableLetter}
 use Rattle.sheet.proofs.Digits.{bound-to-digits}
@@ -68,7 +68,7 @@ unrolled (suc k) i b h =
 all-of : (k : ℕ) (b : List ℕ) → length b ≡ k → b ≡ elementsAt k 0 b ++ []
 all-of k b h = unrolled k 0 b (omega arith) ∙ ap (λ x. elementsAt k 0 b ++ x) (drop-all (0 + k) b (omega arith))
 
-kind-back : (b : ℕ) (k : Kind) → kindAt b ≡ Ok k → kindByte k ≡ b
+kind-back : (b : ℕ) (k : Kind) → kindOf b ≡ Ok k → kindByte k ≡ b
 kind-back b k e =
     ⊎-elim
     (λ d. ap kindByte (sym (same-ok (d .1))) ∙ sym (eqb-true b 68 (d .0)))
@@ -118,7 +118,7 @@ record ContentBack (tag : ℕ) (b : List ℕ) (f : Content) : Type 0 where
 
 term-back : (b : List ℕ) (f : Content) → 2 ≤ length b → termIn b ≡ Ok f → ContentBack 84 b f
 term-back b f h e =
-    let kinded = between (kindAt (getD b 0 0)) e in
+    let kinded = between (kindOf (getD b 0 0)) e in
     let formed = between (formAt b) (kinded .2) in
     let k = kinded .0 in
     let g = formed .0 in

@@ -8,7 +8,6 @@ use lib.ListN.{length, getD, take, drop}
 use mir.Val.{Fits}
 use mir.Syntax.{w8}
 use Rattle.std.proofs.shelf.Lists.{take-rest, drop-drop, length-drop}
-use Rattle.std.proofs.shelf.Parts.{between-to-end}
 use Rattle.std.specs.Results.{Cases}
 use Rattle.std.specs.declared.result.Result.{Result}
 use Rattle.std.specs.declared.result.Result.the-variants.{Ok, Err}
@@ -20,7 +19,7 @@ use Rattle.sheet.specs.declared.term.Form.{Form}
 use Rattle.sheet.specs.declared.term.Kind.{Kind}
 use Rattle.sheet.specs.Fields.{Content, termField, contentOf, formBytes, isLabel}
 use Rattle.sheet.specs.Causes.{inLayer, readerLetter}
-use Rattle.sheet.specs.Parsing.{andThen, kindAt, formAt, labelAt, termIn, contentIn, fieldIn, outcome, parse, remaining, restAfter, statedLength}
+use Rattle.sheet.specs.Parsing.{andThen, kindOf, formAt, labelAt, termIn, contentIn, fieldIn, outcome, parse, remaining, restAfter, statedLength}
 use Rattle.sheet.specs.RoundTrips.{ReadRight, ReadsAll}
 use Rattle.sheet.proofs.Accepting.{field-by-content, field-read, term-by-label}
 use Rattle.sheet.proofs.Inverting.{FieldBack, field-back}
@@ -35,7 +34,7 @@ tested l finish true h = rw (← h)
 tested l finish false h = rw (← h)
 
 -- kind and form are read, and the label is tested. `&b[i..]` is `take (length b - i) (drop i b)`
-pub term-found : (b : List ℕ) (k : Kind) (f : Form) (n : ℕ) (t : Bool) → Ok k ≡ kindAt (getD b 0 0) → Ok f ≡ formAt b → n ≡ length (formBytes f) → t ≡ isLabel (take (length b - (1 + n)) (drop (1 + n) b)) → cond t (Ok (termField (record { kind = k; form = f }) (take (length b - (1 + n)) (drop (1 + n) b)))) (Err BadLabel) ≡ termIn b
+pub term-found : (b : List ℕ) (k : Kind) (f : Form) (n : ℕ) (t : Bool) → Ok k ≡ kindOf (getD b 0 0) → Ok f ≡ formAt b → n ≡ length (formBytes f) → t ≡ isLabel (take (length b - (1 + n)) (drop (1 + n) b)) → cond t (Ok (termField (record { kind = k; form = f }) (take (length b - (1 + n)) (drop (1 + n) b)))) (Err BadLabel) ≡ termIn b
 term-found b k f n t hk hf hn ht =
     let finish : List ℕ → Result Content Cause = λ l. Ok (termField (record { kind = k; form = f }) l) in
     tested (take (length b - (1 + n)) (drop (1 + n) b)) finish t ht

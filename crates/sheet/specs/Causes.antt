@@ -11,7 +11,7 @@ abbrev pub causeNumber : Cause → ℕ
 causeNumber CutShort = 1
 -- the tag is none of T, S, E and U
 causeNumber UnknownTag = 2
--- the tag's fields have another length
+-- the length is none that a field with this tag has
 causeNumber WrongLength = 3
 -- a term's kind, form or table letter is wrong, or its letter or an argument is missing
 causeNumber MalformedTerm = 4

@@ -32,8 +32,8 @@ andThen (Err c) f = Err c
 abbrev pub statedLength : List ℕ → ℕ
 statedLength s = getD s 1 0 * 256 + getD s 2 0
 
-abbrev pub kindAt : ℕ → Result Kind Cause
-kindAt b = cond (eqb b (kindByte Dated)) (Ok Dated) (cond (eqb b (kindByte Level)) (Ok Level) (Err MalformedTerm))
+abbrev pub kindOf : ℕ → Result Kind Cause
+kindOf b = cond (eqb b (kindByte Dated)) (Ok Dated) (cond (eqb b (kindByte Level)) (Ok Level) (Err MalformedTerm))
 
 -- a table's letter and its arguments, if they are all there
 abbrev pub appliedAt : List ℕ → ℕ → Form → Result Form Cause
@@ -53,7 +53,7 @@ labelAt l = cond (isLabel l) (Ok l) (Err BadLabel)
 -- the kind takes one byte, the form the bytes that it is written in, and the label the rest
 abbrev pub termIn : List ℕ → Result Content Cause
 termIn b =
-    andThen (kindAt (getD b 0 0)) (λ k.
+    andThen (kindOf (getD b 0 0)) (λ k.
     andThen (formAt b) (λ f.
     andThen (labelAt (drop (1 + length (formBytes f)) b)) (λ l.
     Ok (termField (record { kind = k; form = f }) l))))

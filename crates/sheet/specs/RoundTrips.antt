@@ -15,14 +15,15 @@ use Rattle.sheet.specs.Parsing.{parse, remaining, statedLength}
 use Rattle.sheet.specs.Encoding.{encode}
 use Rattle.sheet.specs.Terms.{wellLettered}
 
--- a field that a sheet can hold: a letter from A to Z, a label, a bound of 32 bits
+-- a field that a sheet can hold: its table letter is from A to Z, its label is one, its bound has 32 bits.
+-- The numbers of its terms are bytes, as in the code
 abbrev pub WellFormed : Content → Type 0
 WellFormed (termField t l) = (wellLettered (t .form) ≡ true) × (isLabel l ≡ true)
 WellFormed (rowField (Span i j c)) = SFits w32 c
 WellFormed (rowField (Same i j)) = Unit {0}
 WellFormed (rowField (Unlike i j)) = Unit {0}
 
--- of a row this is all that there is to ask
+-- a row's bound has 32 bits; of a term nothing is asked here
 abbrev pub RowFits : Content → Type 0
 RowFits (termField t l) = Unit {0}
 RowFits (rowField r) = WellFormed (rowField r)

@@ -2,7 +2,7 @@
 ghost use mathlib.Core.Path.{_≡_};
 ghost use Prim.Native.Nat.{_+_, _≤_};
 ghost use lib.ListN.{length, drop};
-ghost use Rattle.sheet.specs.Parsing.{contents, contentIn, fieldIn, fieldPart, formAt, kindAt, outcome, parse, remaining, statedLength, termIn};
+ghost use Rattle.sheet.specs.Parsing.{contents, contentIn, fieldIn, fieldPart, formAt, kindOf, outcome, parse, remaining, statedLength, termIn};
 ghost use Rattle.sheet.specs.RoundTrips.{ReadRight, ReadsAll};
 ghost use Rattle.std.specs.Results.{Cases};
 use crate::fault::Cause;
@@ -54,7 +54,7 @@ fn split_field(sheet: &[u8]) -> Result<(Field<'_>, &[u8]), Cause>
 }
 
 fn read_kind(byte: u8) -> Result<Kind, Cause>
-    ensures { λ r. ⌜ r ≡ kindAt byte ⌝ }
+    ensures { λ r. ⌜ r ≡ kindOf byte ⌝ }
 {
     match byte as char {
         'D' => Ok(Kind::Dated),

@@ -28,7 +28,7 @@ const ACCEPTED: [(&[u8], usize); 24] = [
     (b"E\x00\x02\x01\x02", 5),
     (b"E\x00\x02\x00\xFF", 5),
     (b"U\x00\x02\x01\x01", 5),
-    // what follows the field is none of the reader's business
+    // whatever follows the field is left
     (b"T\x00\x03DNxy", 6),
     (b"T\x00\x03DNx\x00", 6),
     (b"S\x00\x06\x01\x00\x00\x00\x00\x03S", 9),
@@ -38,7 +38,7 @@ const ACCEPTED: [(&[u8], usize); 24] = [
 ];
 
 // A sheet, and the number by which its first field is refused.
-const REFUSED: [(&[u8], u8); 71] = [
+const REFUSED: [(&[u8], u8); 83] = [
     // fewer than three bytes, or than the stated length
     (b"", 1),
     (b"T", 1),
@@ -48,6 +48,8 @@ const REFUSED: [(&[u8], u8); 71] = [
     (b"S\x00\x06\x01\x00\x00\x00\x00", 1),
     (b"E\x00\x02\x01", 1),
     (b"U\x00\x02", 1),
+    (b"U\x00\x02\x01", 1),
+    (b"T\x01\x03DNx", 1),
     (b"E\x01\x02\x01\x02", 1),
     // an unknown tag, a wrong length, kind or label that is cut short is cut short
     (b"X", 1),
@@ -89,10 +91,14 @@ const REFUSED: [(&[u8], u8); 71] = [
     (b"T\x00\x03dNx", 4),
     (b"T\x00\x03NNx", 4),
     (b"T\x00\x03CNx", 4),
+    (b"T\x00\x03ENx", 4),
+    (b"T\x00\x03KNx", 4),
+    (b"T\x00\x03MNx", 4),
     (b"T\x00\x03\xC4Nx", 4),
     // a wrong form
     (b"T\x00\x03Dnx", 4),
-    (b"T\x00\x050DA\x01x", 4),
+    (b"T\x00\x03DMx", 4),
+    (b"T\x00\x03DOx", 4),
     (b"T\x00\x05D0A\x01x", 4),
     (b"T\x00\x07D3A\x01\x02\x03x", 4),
     (b"T\x00\x05D\x01A\x01x", 4),
@@ -112,7 +118,9 @@ const REFUSED: [(&[u8], u8); 71] = [
     // before a wrong label
     (b"T\x00\x02XN", 4),
     (b"T\x00\x03XN ", 4),
+    (b"T\x00\x03D0 ", 4),
     (b"T\x00\x04L1@\x01", 4),
+    (b"T\x00\x05L2@\x01\x02", 4),
     // no label
     (b"T\x00\x02DN", 5),
     (b"T\x00\x04L1A\x01", 5),
@@ -122,6 +130,10 @@ const REFUSED: [(&[u8], u8); 71] = [
     (b"T\x00\x05DNab\x7F", 5),
     (b"T\x00\x05DNa\x00b", 5),
     (b"T\x00\x05DNa\xE1b", 5),
+    (b"T\x00\x05L1A\x01 ", 5),
+    (b"T\x00\x05L1A\x01\x7F", 5),
+    (b"T\x00\x06L2A\x01\x02 ", 5),
+    (b"T\x00\x06L2A\x01\x02\x7F", 5),
 ];
 
 // Sheets whose first field has a label of 13 bytes.
@@ -186,6 +198,19 @@ fn length_has_a_high_byte() -> Result<(), Fail> {
     sheet[1] = 1;
     sheet[2] = 2;
     check_refused(&sheet, 3)?;
+    check_refused(&sheet[0..260], 1)
+}
+
+// A term of 258 bytes has a label that is too long.
+#[test]
+fn label_has_256_bytes() -> Result<(), Fail> {
+    let mut sheet = [b'a'; 261];
+    sheet[0] = b'T';
+    sheet[1] = 1;
+    sheet[2] = 2;
+    sheet[3] = b'D';
+    sheet[4] = b'N';
+    check_refused(&sheet, 5)?;
     check_refused(&sheet[0..260], 1)
 }
 

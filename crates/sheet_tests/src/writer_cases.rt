@@ -8,32 +8,32 @@ use sheet::term::Term;
 use sheet::writer::write_field;
 use std::test::*;
 
-fn name(label: &[u8]) -> Field<'_> {
-    let term = Term {
-        kind: Kind::Dated,
-        form: Form::Name,
-    };
-    Field::Term { term, label }
+fn name(kind: Kind, label: &[u8]) -> Field<'_> {
+    let form = Form::Name;
+    Field::Term {
+        term: Term { kind, form },
+        label,
+    }
 }
 
-fn one(table: char, label: &[u8]) -> Field<'_> {
-    let term = Term {
-        kind: Kind::Level,
-        form: Form::One { table, argument: 7 },
-    };
-    Field::Term { term, label }
+fn one(kind: Kind, table: char, label: &[u8]) -> Field<'_> {
+    let form = Form::One { table, argument: 7 };
+    Field::Term {
+        term: Term { kind, form },
+        label,
+    }
 }
 
-fn two(table: char, label: &[u8]) -> Field<'_> {
-    let term = Term {
-        kind: Kind::Level,
-        form: Form::Two {
-            table,
-            first: 7,
-            second: 8,
-        },
+fn two(kind: Kind, table: char, label: &[u8]) -> Field<'_> {
+    let form = Form::Two {
+        table,
+        first: 7,
+        second: 8,
     };
-    Field::Term { term, label }
+    Field::Term {
+        term: Term { kind, form },
+        label,
+    }
 }
 
 fn row(row: Row) -> Field<'static> {
@@ -89,14 +89,18 @@ fn write_with_room(
 
 #[test]
 fn terms_are_written() -> Result<(), Fail> {
-    check_written(&name(b"x"), b"T\x00\x03DNx")?;
-    check_written(&name(b"abcdefghijkl"), b"T\x00\x0EDNabcdefghijkl")?;
-    check_written(&one('A', b"!"), b"T\x00\x05L1A\x07!")?;
-    check_written(&one('Z', b"~"), b"T\x00\x05L1Z\x07~")?;
+    check_written(&name(Kind::Dated, b"x"), b"T\x00\x03DNx")?;
     check_written(
-        &two('M', b"abcdefghijkl"),
+        &name(Kind::Level, b"abcdefghijkl"),
+        b"T\x00\x0ELNabcdefghijkl",
+    )?;
+    check_written(&one(Kind::Level, 'A', b"!"), b"T\x00\x05L1A\x07!")?;
+    check_written(&one(Kind::Dated, 'Z', b"~"), b"T\x00\x05D1Z\x07~")?;
+    check_written(
+        &two(Kind::Level, 'M', b"abcdefghijkl"),
         b"T\x00\x11L2M\x07\x08abcdefghijkl",
-    )
+    )?;
+    check_written(&two(Kind::Dated, 'B', b"x"), b"T\x00\x06D2B\x07\x08x")
 }
 
 #[test]
@@ -111,23 +115,29 @@ fn rows_are_written() -> Result<(), Fail> {
     check_written(
         &row(Row::Unlike { left: 0, right: 2 }),
         b"U\x00\x02\x00\x02",
-    )?;
-    check_written(
-        &row(Row::Span {
-            left: 1,
-            right: 0,
-            bound: -3,
-        }),
-        b"S\x00\x06\x01\x00\xFF\xFF\xFF\xFD",
-    )?;
-    check_written(
-        &row(Row::Span {
-            left: 2,
-            right: 9,
-            bound: 16_909_060,
-        }),
-        b"S\x00\x06\x02\x09\x01\x02\x03\x04",
     )
+}
+
+#[test]
+fn spans_are_written() -> Result<(), Fail> {
+    let cases: [(i32, &[u8]); 5] = [
+        (0, b"S\x00\x06\x02\x09\x00\x00\x00\x00"),
+        (-3, b"S\x00\x06\x02\x09\xFF\xFF\xFF\xFD"),
+        (16_909_060, b"S\x00\x06\x02\x09\x01\x02\x03\x04"),
+        (2_147_483_647, b"S\x00\x06\x02\x09\x7F\xFF\xFF\xFF"),
+        (-2_147_483_648, b"S\x00\x06\x02\x09\x80\x00\x00\x00"),
+    ];
+    for (bound, bytes) in cases {
+        check_written(
+            &row(Row::Span {
+                left: 2,
+                right: 9,
+                bound,
+            }),
+            bytes,
+        )?;
+    }
+    Ok(())
 }
 
 // The numbers 4, 5 and 18, in that order.
@@ -135,14 +145,15 @@ fn rows_are_written() -> Result<(), Fail> {
 fn terms_are_refused() -> Result<(), Fail> {
     // U+0141 is 256 past A
     for table in ['@', '[', 'a', '\u{141}'] {
-        check_refused(&one(table, b"x"), 32, 4)?;
-        check_refused(&two(table, b"x"), 32, 4)?;
-        check_refused(&one(table, b""), 0, 4)?;
+        check_refused(&one(Kind::Level, table, b"x"), 32, 4)?;
+        check_refused(&two(Kind::Level, table, b"x"), 32, 4)?;
+        check_refused(&one(Kind::Dated, table, b""), 0, 4)?;
     }
     let labels: [&[u8]; 5] = [b"", b"abcdefghijklm", b" ", b"a\x7F", b"\xE1"];
     for label in labels {
-        check_refused(&name(label), 32, 5)?;
-        check_refused(&two('A', label), 0, 5)?;
+        check_refused(&name(Kind::Dated, label), 32, 5)?;
+        check_refused(&one(Kind::Level, 'A', label), 32, 5)?;
+        check_refused(&two(Kind::Level, 'Z', label), 0, 5)?;
     }
     Ok(())
 }
