@@ -15,7 +15,7 @@ use Rattle.sheet.specs.declared.fault.Cause.the-variants.{BadLabel, BufferTooSh
 use Rattle.sheet.specs.declared.fault.Fault.{Fault}
 use Rattle.sheet.specs.Causes.{inLayer, readerLetter}
 use Rattle.sheet.specs.Encoding.{Written, encode, leaving, put, refused}
-use Rattle.sheet.specs.Fields.{Content, termField, rowField, bytesOf, isLabel}
+use Rattle.sheet.specs.Fields.{FieldValue, termField, rowField, bytesOf, isLabel}
 use Rattle.sheet.specs.Terms.{wellLettered}
 use Rattle.fieldlist.specs.WritingBack.{Alike}
 
@@ -29,7 +29,7 @@ within-tests true true w out n h e = h e
 within-tests true false w out n h e = let z : _≡_ {A = ℕ} 0 1 = cc in absurd (omega arith)
 within-tests false q w out n h e = let z : _≡_ {A = ℕ} 0 1 = cc in absurd (omega arith)
 
-pub within : (f : Content) (out : List ℕ) (n : ℕ) → Ok n ≡ encode f out .answer → n ≤ length (encode f out .buffer)
+pub within : (f : FieldValue) (out : List ℕ) (n : ℕ) → Ok n ≡ encode f out .answer → n ≤ length (encode f out .buffer)
 within (termField t l) out n e =
     let bytes = bytesOf (termField t l) in
     within-tests (wellLettered (t .form)) (isLabel l) (put bytes out) out n (within-put (ltb (length out) (length bytes)) bytes out n) e

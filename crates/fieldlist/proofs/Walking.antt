@@ -13,14 +13,14 @@ use Rattle.std.specs.declared.result.Result.the-variants.{Ok}
 use Rattle.sheet.specs.declared.fault.Fault.{Fault}
 use Rattle.sheet.specs.declared.field.Field.{Field}
 use Rattle.sheet.specs.Encoding.{Written, encode}
-use Rattle.sheet.specs.Fields.{Content, contentOf}
+use Rattle.sheet.specs.Fields.{FieldValue, valueOf}
 use Rattle.sheet.specs.Parsing.{outcome, parse, remaining, restAfter, statedLength}
 use Rattle.sheet.specs.RoundTrips.{ReadRight, WrittenAgain}
 use Rattle.fieldlist.specs.WritingBack.{Alike, Front, none, more}
 
 -- t is left of s after n fields
 pub record Walked (s t : List ℕ) (n : ℕ) : Type 0 where
-  pub fields : List Content
+  pub fields : List FieldValue
   pub front : Front s fields t
   pub count : n ≡ length fields
   pub long : n + length t ≤ length s
@@ -32,14 +32,14 @@ start s =
     record { fields = []; front = none; count = refl; long = omega arith; place = ap (λ n. drop n s) z }
 
 -- the field f was read from the front of t, and u is left
-pub record Took (t : List ℕ) (f : Content) (u : List ℕ) : Type 0 where
+pub record Took (t : List ℕ) (f : FieldValue) (u : List ℕ) : Type 0 where
   pub read : parse t ≡ Ok f
   pub rest : u ≡ remaining t
   pub used : length u + (3 + statedLength t) ≡ length t
   pub again : WrittenAgain t f (3 + statedLength t)
 
 -- from what the reader promises
-pub took : (t u : List ℕ) (r : Result Field Fault) (field : Field) → r ≡ Ok field → outcome r ≡ parse t → u ≡ remaining t → ReadRight t (outcome r) → Cases r (λ _. length u + (3 + statedLength t) ≡ length t) (λ _. u ≡ t) → Took t (contentOf field) u
+pub took : (t u : List ℕ) (r : Result Field Fault) (field : Field) → r ≡ Ok field → outcome r ≡ parse t → u ≡ remaining t → ReadRight t (outcome r) → Cases r (λ _. length u + (3 + statedLength t) ≡ length t) (λ _. u ≡ t) → Took t (valueOf field) u
 took t u r field is answer rest sound used = record {
   read = sym answer ∙ ap outcome is;
   rest = rest;
@@ -48,7 +48,7 @@ took t u r field is answer rest sound used = record {
 }
 
 -- one field more
-pub step : (s t u : List ℕ) (n m : ℕ) (f : Content) → Walked s t n → Took t f u → m ≡ n + 1 → Walked s u m
+pub step : (s t u : List ℕ) (n m : ℕ) (f : FieldValue) → Walked s t n → Took t f u → m ≡ n + 1 → Walked s u m
 step s t u n m f w k more-one =
     let long = w .long in
     let count = w .count in
@@ -66,7 +66,7 @@ step s t u n m f w k more-one =
     }
 
 -- written again with room for it, it is found alike
-pub alike : (t u part : List ℕ) (f : Content) (m : ℕ) → Took t f u → m ≡ length t - length u → m ≤ length part → Alike (encode f part) (take m t)
+pub alike : (t u part : List ℕ) (f : FieldValue) (m : ℕ) → Took t f u → m ≡ length t - length u → m ≤ length part → Alike (encode f part) (take m t)
 alike t u part f m k e room =
     let used = k .used in
     let size = 3 + statedLength t in
@@ -84,7 +84,7 @@ pub record Copied (s u b : List ℕ) : Type 0 where
   pub same : take (length s - length u) b ≡ take (length s - length u) s
 
 -- written to the buffer from place p on, its bytes stand where they stand in the sheet. `old` was there, and `part` is there now
-pub copy : (s t u b old part : List ℕ) (f : Content) (p : ℕ) → Took t f u → t ≡ drop p s → length t ≤ length s → p ≡ length s - length t → Copied s t b → old ≡ drop p b → part ≡ encode f old .buffer → Copied s u (putMid p (length b - p) b part)
+pub copy : (s t u b old part : List ℕ) (f : FieldValue) (p : ℕ) → Took t f u → t ≡ drop p s → length t ≤ length s → p ≡ length s - length t → Copied s t b → old ≡ drop p b → part ≡ encode f old .buffer → Copied s u (putMid p (length b - p) b part)
 copy s t u b old part f p k ends fits place before is after =
     let used = k .used in
     let b-long = before .long in
@@ -110,7 +110,7 @@ copy s t u b old part f p k ends fits place before is after =
     }
 
 -- nothing is left
-pub whole : (s t : List ℕ) (n : ℕ) → Walked s t n → length t ≡ 0 → (fs : List Content) × Front s fs [] × (n ≡ length fs)
+pub whole : (s t : List ℕ) (n : ℕ) → Walked s t n → length t ≡ 0 → (fs : List FieldValue) × Front s fs [] × (n ≡ length fs)
 whole s t n w none-left = (w .fields, subst (Front s (w .fields)) (nil-from-length t none-left) (w .front), w .count)
 
 -- and the buffer holds the sheet

@@ -1,6 +1,6 @@
 // Prints the fields of a sheet.
-use crate::words::Numbered;
-use crate::words::NumberedDisplay;
+use crate::words::Line;
+use crate::words::LineDisplay;
 use sheet::field::Field;
 use sheet::reader::read_field;
 use std::io;
@@ -25,8 +25,12 @@ pub fn print_fields(rt: &LibcRuntime, sheet: &[u8]) -> io::Result<()> {
             rows += 1;
             rows - 1
         };
-        let line = Numbered { number, field };
-        println!(rt, "byte {place}: {line}")?;
+        let line = Line {
+            place,
+            number,
+            field,
+        };
+        println!(rt, "{line}")?;
         rest = after;
     }
     Ok(())

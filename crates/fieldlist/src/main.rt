@@ -1,4 +1,4 @@
-// Lists the fields of a sheet in words, writes each back, and says which byte is wrong.
+// Lists the fields of a sheet in words, writes each back, and says where a field is refused and why.
 mod listing;
 mod words;
 mod write_back;
@@ -67,6 +67,7 @@ fn read_sheet(rt: &LibcRuntime) -> io::Result<Vec<u8>>
 {
     let mut sheet = Vec::new(rt.alloc());
     rt.stdin().take(LIMIT as u64).read_to_end(&mut sheet)?;
+    // `take` promises no length to the proof, so it is cut here.
     sheet.truncate(LIMIT);
     if sheet.len() == LIMIT {
         eprintln!(rt, "fieldlist: {LIMIT} bytes came in, and no more are read")?;

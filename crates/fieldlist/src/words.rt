@@ -1,5 +1,6 @@
 // Fields, endings and refusals in words.
-ghost use Rattle.fieldlist.specs.Lines.{lastLine};
+ghost use Rattle.fieldlist.specs.Lines.{fieldLine, lastLine, textOfLabel, wordsOfForm, wordsOfKind, wordsOfRow};
+ghost use Rattle.sheet.specs.Fields.{valueOf};
 ghost use Rattle.std.specs.declared.option.Option.the-variants.{Some};
 use crate::write_back::Ending;
 use sheet::fault::Cause;
@@ -9,68 +10,103 @@ use sheet::term::Form;
 use sheet::term::Kind;
 use std::fmt;
 
-// A field with its term or row number.
+// A field with the byte where it starts and its term or row number: a line of the listing.
 #[derive(Clone, Copy)]
-pub struct Numbered<'a> {
+pub struct Line<'a> {
+    pub place: usize,
     pub number: usize,
     pub field: Field<'a>,
 }
 
-pub impl fmt::Display for Numbered<'_> as NumberedDisplay {
+// Parts of a line. Another crate's types cannot be printed here, so each is wrapped.
+#[derive(Clone, Copy)]
+struct KindWords(Kind);
+
+#[derive(Clone, Copy)]
+struct FormWords(Form);
+
+#[derive(Clone, Copy)]
+struct RowWords(Row);
+
+// The bytes of a label, each as the character with that code.
+#[derive(Clone, Copy)]
+struct LabelText<'a>(&'a [u8]);
+
+pub impl fmt::Display for Line<'_> as LineDisplay {
+    ghost shown = { λ l. Some (fieldLine (l .place) (l .number) (valueOf (l .field))) };
+
     fn fmt<W: fmt::Write>(&self, f: &mut fmt::Formatter<W>) -> fmt::Result {
+        let place = self.place;
         let number = self.number;
         match self.field {
             Field::Term { term, label } => {
-                let kind = kind_in_words(term.kind);
-                write!(f, "term {number} is {kind}, ")?;
-                write_form(term.form, f)?;
-                write!(f, ", labelled ")?;
-                write_label(label, f)
+                let kind = KindWords(term.kind);
+                let form = FormWords(term.form);
+                let label = LabelText(label);
+                write!(
+                    f,
+                    "byte {place}: term {number} is {kind}, {form}, labelled {label}"
+                )
             }
             Field::Row(row) => {
-                write!(f, "row {number} says ")?;
-                write_row(row, f)
+                let row = RowWords(row);
+                write!(f, "byte {place}: row {number} says {row}")
             }
         }
     }
 }
 
-fn kind_in_words(kind: Kind) -> &'static str {
-    match kind {
-        Kind::Dated => "dated",
-        Kind::Level => "a level",
+impl fmt::Display for KindWords as KindDisplay {
+    ghost shown = { λ k. Some (wordsOfKind (k .0)) };
+
+    fn fmt<W: fmt::Write>(&self, f: &mut fmt::Formatter<W>) -> fmt::Result {
+        match self.0 {
+            Kind::Dated => write!(f, "dated"),
+            Kind::Level => write!(f, "a level"),
+        }
     }
 }
 
-fn write_form<W: fmt::Write>(form: Form, f: &mut fmt::Formatter<W>) -> fmt::Result {
-    match form {
-        Form::Name => write!(f, "a name"),
-        Form::One { table, argument } => write!(f, "table {table} at term {argument}"),
-        Form::Two {
-            table,
-            first,
-            second,
-        } => write!(f, "table {table} at terms {first} and {second}"),
+impl fmt::Display for FormWords as FormDisplay {
+    ghost shown = { λ g. Some (wordsOfForm (g .0)) };
+
+    fn fmt<W: fmt::Write>(&self, f: &mut fmt::Formatter<W>) -> fmt::Result {
+        match self.0 {
+            Form::Name => write!(f, "a name"),
+            Form::One { table, argument } => write!(f, "table {table} at term {argument}"),
+            Form::Two {
+                table,
+                first,
+                second,
+            } => write!(f, "table {table} at terms {first} and {second}"),
+        }
     }
 }
 
-fn write_row<W: fmt::Write>(row: Row, f: &mut fmt::Formatter<W>) -> fmt::Result {
-    match row {
-        Row::Span { left, right, bound } => write!(
-            f,
-            "span: term {left} - term {right} <= {bound}"
-        ),
-        Row::Same { left, right } => write!(f, "same: term {left} = term {right}"),
-        Row::Unlike { left, right } => write!(f, "unlike: term {left} <> term {right}"),
+impl fmt::Display for RowWords as RowDisplay {
+    ghost shown = { λ r. Some (wordsOfRow (r .0)) };
+
+    fn fmt<W: fmt::Write>(&self, f: &mut fmt::Formatter<W>) -> fmt::Result {
+        match self.0 {
+            Row::Span { left, right, bound } => write!(
+                f,
+                "span: term {left} - term {right} <= {bound}"
+            ),
+            Row::Same { left, right } => write!(f, "same: term {left} = term {right}"),
+            Row::Unlike { left, right } => write!(f, "unlike: term {left} <> term {right}"),
+        }
     }
 }
 
-// The bytes of a label are visible characters.
-fn write_label<W: fmt::Write>(label: &[u8], f: &mut fmt::Formatter<W>) -> fmt::Result {
-    for byte in label {
-        f.write_char(*byte as char)?;
+impl fmt::Display for LabelText<'_> as LabelDisplay {
+    ghost shown = { λ l. Some (textOfLabel (l .0 .now)) };
+
+    fn fmt<W: fmt::Write>(&self, f: &mut fmt::Formatter<W>) -> fmt::Result {
+        for byte in self.0 {
+            f.write_char(*byte as char)?;
+        }
+        Ok(())
     }
-    Ok(())
 }
 
 // The last line of a listing.

@@ -3,7 +3,7 @@ ghost use mathlib.Core.Path.{_≡_};
 ghost use lib.ListN.{length};
 ghost use Rattle.fieldlist.specs.WritingBack.{Alike, Ended};
 ghost use Rattle.sheet.specs.Encoding.{encode};
-ghost use Rattle.sheet.specs.Fields.{contentOf};
+ghost use Rattle.sheet.specs.Fields.{valueOf};
 ghost use Rattle.std.specs.Orderings.{Decides};
 use sheet::fault::Fault;
 use sheet::field::Field;
@@ -59,10 +59,10 @@ pub fn write_fields_back(sheet: &[u8], buffer: &mut [u8]) -> Ending
     }
 }
 
-// Writes the field at the front of the part, and tells whether these bytes came of it.
+// Writes the field at the front of the part, and tells whether just these bytes were written.
 fn is_written_alike(field: &Field<'_>, bytes: &[u8], part: &mut [u8]) -> bool
-    ensures writes { λ _. ⌜ now (part .exit) ≡ encode (contentOf (now (field .entry))) (now (part .entry)) .buffer ⌝ }
-    ensures compares { λ r. ⌜ Decides r (Alike (encode (contentOf (now (field .entry))) (now (part .entry))) (now (bytes .entry))) ⌝ }
+    ensures writes { λ _. ⌜ now (part .exit) ≡ encode (valueOf (now (field .entry))) (now (part .entry)) .buffer ⌝ }
+    ensures compares { λ r. ⌜ Decides r (Alike (encode (valueOf (now (field .entry))) (now (part .entry))) (now (bytes .entry))) ⌝ }
 {
     match write_field(field, part) {
         Ok(size) => &part[0..size] == bytes,

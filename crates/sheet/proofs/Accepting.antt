@@ -17,7 +17,7 @@ use Rattle.sheet.specs.declared.term.Form.the-variants.{Name, One, Two}
 use Rattle.sheet.specs.declared.term.Kind.{Kind}
 use Rattle.sheet.specs.declared.term.Kind.the-variants.{Dated, Level}
 use Rattle.sheet.specs.Causes.{inLayer, readerLetter}
-use Rattle.sheet.specs.Fields.{Content, termField, rowField, kindByte, formBytes, tagOf, bodyOf, bytesOf, isLabel}
+use Rattle.sheet.specs.Fields.{FieldValue, termField, rowField, kindByte, formBytes, tagOf, bodyOf, bytesOf, isLabel}
 use Rattle.sheet.specs.Parsing.{andThen, statedLength, kindOf, formAt, labelAt, termIn, contentIn, fieldIn, restAfter, remaining}
 use Rattle.sheet.specs.RoundTrips.{WellFormed}
 use Rattle.sheet.specs.Terms.{wellLettered}
@@ -54,13 +54,13 @@ term-by-label b k g hk hg =
 
 term-read : (k : Kind) (g : Form) (l : List ℕ) → wellLettered g ≡ true → isLabel l ≡ true → termIn (kindByte k ∷ (formBytes g ++ l)) ≡ Ok (termField (record { kind = k; form = g }) l)
 term-read k g l letter label =
-    let finish : List ℕ → Result Content Cause = λ l. Ok (termField (record { kind = k; form = g }) l) in
+    let finish : List ℕ → Result FieldValue Cause = λ l. Ok (termField (record { kind = k; form = g }) l) in
     let labelled : labelAt l ≡ Ok l = rw label in
     term-by-label (kindByte k ∷ (formBytes g ++ l)) k g (kind-read k) (form-read (kindByte k) g l letter)
     ∙ ap (λ r. andThen (labelAt r) finish) (label-left (kindByte k) g l)
     ∙ ap (λ r. andThen r finish) labelled
 
-pub content-read : (f : Content) → WellFormed f → contentIn (tagOf f) (bodyOf f) ≡ Ok f
+pub content-read : (f : FieldValue) → WellFormed f → contentIn (tagOf f) (bodyOf f) ≡ Ok f
 content-read (termField t l) w =
     let long : ltb (length (bodyOf (termField t l))) 2 ≡ false = le-ltb _ _ (two-bytes (kindByte (t .kind)) (t .form) l) in
     rw long (term-read (t .kind) (t .form) l (w .0) (w .1))
@@ -75,10 +75,10 @@ field-by-content s h k =
     let b : ltb (length s) (3 + statedLength s) ≡ false = le-ltb _ _ k in
     rw (a, b)
 
-stated-right : (f : Content) (rest : List ℕ) → statedLength (bytesOf f ++ rest) ≡ length (bodyOf f)
+stated-right : (f : FieldValue) (rest : List ℕ) → statedLength (bytesOf f ++ rest) ≡ length (bodyOf f)
 stated-right f rest = omega arith
 
-pub field-read : (f : Content) (rest : List ℕ) → WellFormed f → fieldIn (bytesOf f ++ rest) ≡ Ok f
+pub field-read : (f : FieldValue) (rest : List ℕ) → WellFormed f → fieldIn (bytesOf f ++ rest) ≡ Ok f
 field-read f rest w =
     let s = bytesOf f ++ rest in
     let n : statedLength s ≡ length (bodyOf f) = stated-right f rest in
@@ -89,7 +89,7 @@ field-read f rest w =
     ∙ content-read f w
 
 -- and what follows them is left
-pub rest-left : (f : Content) (rest : List ℕ) → WellFormed f → remaining (bytesOf f ++ rest) ≡ rest
+pub rest-left : (f : FieldValue) (rest : List ℕ) → WellFormed f → remaining (bytesOf f ++ rest) ≡ rest
 rest-left f rest w =
     let s = bytesOf f ++ rest in
     ap (λ r. restAfter (inLayer readerLetter r) s) (field-read f rest w)

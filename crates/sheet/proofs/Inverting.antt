@@ -20,7 +20,7 @@ use Rattle.sheet.specs.declared.row.Row.the-variants.{Span, Same, Unlike}
 use Rattle.sheet.specs.declared.term.Form.{Form}
 use Rattle.sheet.specs.declared.term.Form.the-variants.{Name, One, Two}
 use Rattle.sheet.specs.declared.term.Kind.{Kind}
-use Rattle.sheet.specs.Fields.{Content, termField, rowField, kindByte, formBytes, tagOf, bodyOf, bytesOf, isLabel}
+use Rattle.sheet.specs.Fields.{FieldValue, termField, rowField, kindByte, formBytes, tagOf, bodyOf, bytesOf, isLabel}
 use Rattle.sheet.specs.Parsing.{andThen, statedLength, kindOf, appliedAt, formAt, labelAt, termIn, boundIn, contentIn, fieldIn}
 use Rattle.sheet.specs.RoundTrips.{WellFormed}
 use Rattle.sheet.specs.Terms.{wellLettered, isTableLetter}
@@ -111,12 +111,12 @@ form-back b g h e =
     (ways (eqb (getD b 1 0) 78) e)
 
 -- a content that was read: it is well-formed, and it stands there
-record ContentBack (tag : ℕ) (b : List ℕ) (f : Content) : Type 0 where
+record ContentBack (tag : ℕ) (b : List ℕ) (f : FieldValue) : Type 0 where
   sound : WellFormed f
   tagged : tagOf f ≡ tag
   body : bodyOf f ≡ b
 
-term-back : (b : List ℕ) (f : Content) → 2 ≤ length b → termIn b ≡ Ok f → ContentBack 84 b f
+term-back : (b : List ℕ) (f : FieldValue) → 2 ≤ length b → termIn b ≡ Ok f → ContentBack 84 b f
 term-back b f h e =
     let kinded = between (kindOf (getD b 0 0)) e in
     let formed = between (formAt b) (kinded .2) in
@@ -151,12 +151,12 @@ unlike-back : (b : List ℕ) → length b ≡ 2 → ContentBack 85 b (rowField (
 unlike-back b h = record { sound = tt; tagged = refl; body = sym (all-of 2 b h) }
 
 -- a row of the length that its tag asks for
-row-back : (tag n : ℕ) (b : List ℕ) (r : Row) (f : Content) → cond (eqb (length b) n) (Ok (rowField r)) (Err WrongLength) ≡ Ok f → (length b ≡ n → ContentBack tag b (rowField r)) → ContentBack tag b f
+row-back : (tag n : ℕ) (b : List ℕ) (r : Row) (f : FieldValue) → cond (eqb (length b) n) (Ok (rowField r)) (Err WrongLength) ≡ Ok f → (length b ≡ n → ContentBack tag b (rowField r)) → ContentBack tag b f
 row-back tag n b r f e back =
     let long = passed (eqb (length b) n) WrongLength e in
     subst (ContentBack tag b) (same-ok (long .1)) (back (eqb-true (length b) n (long .0)))
 
-module _ (tag : ℕ) (b : List ℕ) (f : Content) (small : (i : ℕ) → getD b i 0 < 256) where
+module _ (tag : ℕ) (b : List ℕ) (f : FieldValue) (small : (i : ℕ) → getD b i 0 < 256) where
   at : (n : ℕ) → eqb tag n ≡ true → ContentBack n b f → ContentBack tag b f
   at n h = subst (λ m. ContentBack m b f) (sym (eqb-true tag n h))
 
@@ -190,12 +190,12 @@ front-of s n h =
     (λ i. take (m i) (headed i))
 
 -- a field that was read: it is well-formed, and its bytes are the front of the sheet
-pub record FieldBack (s : List ℕ) (f : Content) : Type 0 where
+pub record FieldBack (s : List ℕ) (f : FieldValue) : Type 0 where
   pub sound : WellFormed f
   pub long : 3 + statedLength s ≤ length s
   pub bytes : bytesOf f ≡ take (3 + statedLength s) s
 
-pub field-back : (s : List ℕ) (f : Content) → ((i : ℕ) → getD s i 0 < 256) → fieldIn s ≡ Ok f → FieldBack s f
+pub field-back : (s : List ℕ) (f : FieldValue) → ((i : ℕ) → getD s i 0 < 256) → fieldIn s ≡ Ok f → FieldBack s f
 field-back s f small e =
     let headed = failed (ltb (length s) 3) CutShort e in
     let whole = failed (ltb (length s) (3 + statedLength s)) CutShort (headed .1) in

@@ -17,7 +17,7 @@ use Rattle.sheet.specs.declared.fault.Fault.{Fault}
 use Rattle.sheet.specs.declared.field.Field.{Field}
 use Rattle.sheet.specs.declared.term.Form.{Form}
 use Rattle.sheet.specs.declared.term.Kind.{Kind}
-use Rattle.sheet.specs.Fields.{Content, termField, contentOf, formBytes, isLabel}
+use Rattle.sheet.specs.Fields.{FieldValue, termField, valueOf, formBytes, isLabel}
 use Rattle.sheet.specs.Causes.{inLayer, readerLetter}
 use Rattle.sheet.specs.Parsing.{andThen, kindOf, formAt, labelAt, termIn, contentIn, fieldIn, outcome, parse, remaining, restAfter, statedLength}
 use Rattle.sheet.specs.RoundTrips.{ReadRight, ReadsAll}
@@ -29,20 +29,20 @@ byte : {n : ℕ} → Fits w8 n → n < 256
 byte f = omega arith
 
 -- a label is handed on, and anything else refused
-tested : (l : List ℕ) (finish : List ℕ → Result Content Cause) (t : Bool) → t ≡ isLabel l → cond t (finish l) (Err BadLabel) ≡ andThen (labelAt l) finish
+tested : (l : List ℕ) (finish : List ℕ → Result FieldValue Cause) (t : Bool) → t ≡ isLabel l → cond t (finish l) (Err BadLabel) ≡ andThen (labelAt l) finish
 tested l finish true h = rw (← h)
 tested l finish false h = rw (← h)
 
 -- kind and form are read, and the label is tested. `&b[i..]` is `take (length b - i) (drop i b)`
 pub term-found : (b : List ℕ) (k : Kind) (f : Form) (n : ℕ) (t : Bool) → Ok k ≡ kindOf (getD b 0 0) → Ok f ≡ formAt b → n ≡ length (formBytes f) → t ≡ isLabel (take (length b - (1 + n)) (drop (1 + n) b)) → cond t (Ok (termField (record { kind = k; form = f }) (take (length b - (1 + n)) (drop (1 + n) b)))) (Err BadLabel) ≡ termIn b
 term-found b k f n t hk hf hn ht =
-    let finish : List ℕ → Result Content Cause = λ l. Ok (termField (record { kind = k; form = f }) l) in
+    let finish : List ℕ → Result FieldValue Cause = λ l. Ok (termField (record { kind = k; form = f }) l) in
     tested (take (length b - (1 + n)) (drop (1 + n) b)) finish t ht
     ∙ ap (λ l. andThen (labelAt l) finish) (take-rest b (1 + n) ∙ ap (λ m. drop (1 + m) b) hn)
     ∙ sym (term-by-label b k f (sym hk) (sym hf))
 
 -- the lengths are tested: the content decides. `&s[3..]` is `take (length s - 3) (drop 3 s)`
-pub field-found : (s : List ℕ) (r : Result Content Cause) → 3 ≤ length s → statedLength s ≤ length (take (length s - 3) (drop 3 s)) → r ≡ contentIn (getD s 0 0) (take (statedLength s - 0) (take (length s - 3) (drop 3 s))) → r ≡ fieldIn s
+pub field-found : (s : List ℕ) (r : Result FieldValue Cause) → 3 ≤ length s → statedLength s ≤ length (take (length s - 3) (drop 3 s)) → r ≡ contentIn (getD s 0 0) (take (statedLength s - 0) (take (length s - 3) (drop 3 s))) → r ≡ fieldIn s
 field-found s r h k e =
     let all : take (length s - 3) (drop 3 s) ≡ drop 3 s = take-rest s 3 in
     let far : 3 + statedLength s ≤ length s = omega (arith, simp length-drop at (ap length all)) in
@@ -59,19 +59,19 @@ found l (Err c) e = let z : _≡_ {A = ℕ} 0 1 = cc in absurd (omega arith)
 
 -- what the reader promises above `parse`
 module _ (s : List ℕ) (typed : (i : ℕ) → Fits w8 (getD s i 0)) where
-  back : (f : Content) → Ok f ≡ parse s → FieldBack s f
+  back : (f : FieldValue) → Ok f ≡ parse s → FieldBack s f
   back f e = field-back s f (λ i. byte (typed i)) (found readerLetter (fieldIn s) e)
 
-  pub read-right : (r : Result Content Fault) → r ≡ parse s → ReadRight s r
+  pub read-right : (r : Result FieldValue Fault) → r ≡ parse s → ReadRight s r
   read-right (Ok f) e = (back f e .sound, gives-back s f (3 + statedLength s) (back f e .sound) (back f e .long) (back f e .bytes))
   read-right (Err c) e = tt
 
-  pub reads-all : (r : Result Content Fault) → r ≡ parse s → ReadsAll s r
+  pub reads-all : (r : Result FieldValue Fault) → r ≡ parse s → ReadsAll s r
   reads-all r e f rest w front = e ∙ ap parse front ∙ ap (inLayer readerLetter) (field-read f rest w)
 
   pub bytes-used : (r : Result Field Fault) (rest : List ℕ) → outcome r ≡ parse s → rest ≡ remaining s → Cases r (λ _. length rest + (3 + statedLength s) ≡ length s) (λ _. rest ≡ s)
   bytes-used (Ok field) rest e h =
       let ends : rest ≡ drop (3 + statedLength s) s = h ∙ ap (λ r. restAfter r s) (sym e) in
-      let long : 3 + statedLength s ≤ length s = back (contentOf field) e .long in
+      let long : 3 + statedLength s ≤ length s = back (valueOf field) e .long in
       omega (arith, simp length-drop at (ap length ends))
   bytes-used (Err c) rest e h = h ∙ ap (λ r. restAfter r s) (sym e)

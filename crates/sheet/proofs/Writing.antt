@@ -15,14 +15,14 @@ use Rattle.sheet.specs.declared.fault.Cause.the-variants.{BadLabel, BufferTooS
 use Rattle.sheet.specs.declared.row.Row.the-variants.{Span, Same, Unlike}
 use Rattle.sheet.specs.Causes.{inLayer, readerLetter}
 use Rattle.sheet.specs.Encoding.{Written, leaving, refused, put, written}
-use Rattle.sheet.specs.Fields.{Content, termField, rowField, bytesOf, isLabel}
+use Rattle.sheet.specs.Fields.{FieldValue, termField, rowField, bytesOf, isLabel}
 use Rattle.sheet.specs.Parsing.{parse, remaining}
 use Rattle.sheet.specs.RoundTrips.{WellFormed, RowFits, WrittenAgain, ReadBack}
 use Rattle.sheet.specs.Terms.{wellLettered}
 use Rattle.sheet.proofs.Accepting.{field-read, rest-left}
 
 -- its bytes are put down
-pub well-formed-put : (f : Content) (out : List ℕ) → WellFormed f → written f out ≡ put (bytesOf f) out
+pub well-formed-put : (f : FieldValue) (out : List ℕ) → WellFormed f → written f out ≡ put (bytesOf f) out
 well-formed-put (termField t l) out w = rw (w .0, w .1)
 well-formed-put (rowField (Span i j c)) out w = refl
 well-formed-put (rowField (Same i j)) out w = refl
@@ -35,7 +35,7 @@ put-with-room bytes out h =
     rw t
 
 -- so a field whose bytes are the front of s gives them back
-pub gives-back : (s : List ℕ) (f : Content) (n : ℕ) → WellFormed f → n ≤ length s → bytesOf f ≡ take n s → WrittenAgain s f n
+pub gives-back : (s : List ℕ) (f : FieldValue) (n : ℕ) → WellFormed f → n ≤ length s → bytesOf f ≡ take n s → WrittenAgain s f n
 gives-back s f n w long e out room =
     let size : length (take n s) ≡ n = length-take-le n s long in
     let same : written f out ≡ record { answer = Ok n; buffer = take n s ++ drop n out } =
@@ -80,14 +80,14 @@ had-room false n after bytes out e =
     let m : n ≡ length bytes = cc (ap (λ (w : Written Cause). w .answer) e) in
     (m, ap (λ (w : Written Cause). w .buffer) e ∙ ap (λ k. bytes ++ drop k out) (sym m))
 
-written-sound : (f : Content) (n : ℕ) (before after : List ℕ) → RowFits f → leaving (Ok n) after ≡ written f before → WellFormed f × (leaving (Ok n) after ≡ put (bytesOf f) before)
+written-sound : (f : FieldValue) (n : ℕ) (before after : List ℕ) → RowFits f → leaving (Ok n) after ≡ written f before → WellFormed f × (leaving (Ok n) after ≡ put (bytesOf f) before)
 written-sound (termField t l) n before after fits e =
     let p = both-passed (wellLettered (t .form)) (isLabel l) n after before (put (bytesOf (termField t l)) before) e in
     ((p .0, p .1), p .2)
 written-sound (rowField r) n before after fits e = (fits, e)
 
 -- what was written is read back
-pub reads-back : (f : Content) (n : ℕ) (before after : List ℕ) → RowFits f → leaving (Ok n) after ≡ written f before → ReadBack f before after (Ok n)
+pub reads-back : (f : FieldValue) (n : ℕ) (before after : List ℕ) → RowFits f → leaving (Ok n) after ≡ written f before → ReadBack f before after (Ok n)
 reads-back f n before after fits e =
     let sound = written-sound f n before after fits e in
     let room = had-room (ltb (length before) (length (bytesOf f))) n after (bytesOf f) before (sound .1) in (

@@ -51,12 +51,12 @@ causeNumber CodeTooHigh = 20
 causeNumber NoCodeToLift = 21
 -- the engine has no such row
 causeNumber NoSuchRow = 22
--- terms, rows and marks stay as they are while codes are placed
+-- a term, a row or its muting is touched while codes are placed
 causeNumber CodesPlaced = 23
 -- there are no dates before every seat is placed, or where open says no
 causeNumber NoDates = 24
 
--- a fault shows the letter of the layer that refuses
+-- a cause as a fault of the layer with the letter l
 abbrev pub faultIn : ℕ → Cause → Fault
 faultIn l c = record { cause = c; layer = l }
 

@@ -10,7 +10,7 @@ use Rattle.sheet.specs.declared.fault.Cause.{Cause}
 use Rattle.sheet.specs.declared.fault.Cause.the-variants.{MalformedTerm, BadLabel, BufferTooShort}
 use Rattle.sheet.specs.declared.fault.Fault.{Fault}
 use Rattle.sheet.specs.Causes.{inLayer, readerLetter}
-use Rattle.sheet.specs.Fields.{Content, termField, rowField, bytesOf, isLabel}
+use Rattle.sheet.specs.Fields.{FieldValue, termField, rowField, bytesOf, isLabel}
 use Rattle.sheet.specs.Terms.{wellLettered}
 
 -- what a call answers, the length written or why it refuses, and what the whole buffer holds then
@@ -30,10 +30,10 @@ abbrev pub put : List ℕ → List ℕ → Written Cause
 put bytes out = cond (ltb (length out) (length bytes)) (refused BufferTooShort out) (leaving (Ok (length bytes)) (bytes ++ drop (length bytes) out))
 
 -- the table's letter is tested first, then the label, then the room
-abbrev pub written : Content → List ℕ → Written Cause
+abbrev pub written : FieldValue → List ℕ → Written Cause
 written (termField t l) out =
     cond (wellLettered (t .form)) (cond (isLabel l) (put (bytesOf (termField t l)) out) (refused BadLabel out)) (refused MalformedTerm out)
 written (rowField r) out = put (bytesOf (rowField r)) out
 
-abbrev pub encode : Content → List ℕ → Written Fault
+abbrev pub encode : FieldValue → List ℕ → Written Fault
 encode f out = leaving (inLayer readerLetter (written f out .answer)) (written f out .buffer)

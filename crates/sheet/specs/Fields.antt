@@ -17,14 +17,14 @@ use Rattle.sheet.specs.declared.term.Kind.{Kind}
 use Rattle.sheet.specs.declared.term.Kind.the-variants.{Dated, Level}
 use Rattle.sheet.specs.declared.term.Term.{Term}
 
--- a field by its values: a term with the bytes of its label, or a row
-pub data Content : Type 0 where
-  termField : Term → List ℕ → Content
-  rowField : Row → Content
+-- a whole field by its values: a term with the bytes of its label, or a row
+pub data FieldValue : Type 0 where
+  termField : Term → List ℕ → FieldValue
+  rowField : Row → FieldValue
 
-abbrev pub contentOf : Field → Content
-contentOf (TermOf t l) = termField t (l .now)
-contentOf (RowOf r) = rowField r
+abbrev pub valueOf : Field → FieldValue
+valueOf (TermOf t l) = termField t (l .now)
+valueOf (RowOf r) = rowField r
 
 -- the tags T, S, E and U
 abbrev pub termTag : ℕ
@@ -72,13 +72,13 @@ fourBytes n = (n / 16777216 % 256) ∷ (n / 65536 % 256) ∷ (n / 256 % 256) ∷
 abbrev pub boundBytes : ℤ → List ℕ
 boundBytes c = fourBytes (ofZ w32 c)
 
-abbrev pub tagOf : Content → ℕ
+abbrev pub tagOf : FieldValue → ℕ
 tagOf (termField t l) = termTag
 tagOf (rowField (Span i j c)) = spanTag
 tagOf (rowField (Same i j)) = sameTag
 tagOf (rowField (Unlike i j)) = unlikeTag
 
-abbrev pub bodyOf : Content → List ℕ
+abbrev pub bodyOf : FieldValue → List ℕ
 bodyOf (termField t l) = termBytes t ++ l
 bodyOf (rowField (Span i j c)) = i ∷ j ∷ boundBytes c
 bodyOf (rowField (Same i j)) = i ∷ j ∷ []
@@ -87,7 +87,7 @@ bodyOf (rowField (Unlike i j)) = i ∷ j ∷ []
 abbrev pub framed : ℕ → List ℕ → List ℕ
 framed tag body = tag ∷ (length body / 256) ∷ (length body % 256) ∷ body
 
-abbrev pub bytesOf : Content → List ℕ
+abbrev pub bytesOf : FieldValue → List ℕ
 bytesOf f = framed (tagOf f) (bodyOf f)
 
 -- a visible byte is 33 to 126

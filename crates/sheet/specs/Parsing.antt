@@ -20,7 +20,7 @@ use Rattle.sheet.specs.declared.term.Form.the-variants.{Name, One, Two}
 use Rattle.sheet.specs.declared.term.Kind.{Kind}
 use Rattle.sheet.specs.declared.term.Kind.the-variants.{Dated, Level}
 use Rattle.sheet.specs.Causes.{inLayer, readerLetter}
-use Rattle.sheet.specs.Fields.{Content, termField, rowField, contentOf, termTag, spanTag, sameTag, unlikeTag, kindByte, nameByte, oneByte, twoByte, formBytes, isLabel}
+use Rattle.sheet.specs.Fields.{FieldValue, termField, rowField, valueOf, termTag, spanTag, sameTag, unlikeTag, kindByte, nameByte, oneByte, twoByte, formBytes, isLabel}
 use Rattle.sheet.specs.Terms.{isTableLetter}
 
 -- goes on with a value, or hands a cause on
@@ -35,7 +35,7 @@ statedLength s = getD s 1 0 * 256 + getD s 2 0
 abbrev pub kindOf : ℕ → Result Kind Cause
 kindOf b = cond (eqb b (kindByte Dated)) (Ok Dated) (cond (eqb b (kindByte Level)) (Ok Level) (Err MalformedTerm))
 
--- a table's letter and its arguments, if they are all there
+-- the form f, if the content has `size` bytes at least and the third is a table's letter
 abbrev pub appliedAt : List ℕ → ℕ → Form → Result Form Cause
 appliedAt b size f = cond (ltb (length b) size) (Err MalformedTerm) (cond (isTableLetter (getD b 2 0)) (Ok f) (Err MalformedTerm))
 
@@ -51,7 +51,7 @@ abbrev pub labelAt : List ℕ → Result (List ℕ) Cause
 labelAt l = cond (isLabel l) (Ok l) (Err BadLabel)
 
 -- the kind takes one byte, the form the bytes that it is written in, and the label the rest
-abbrev pub termIn : List ℕ → Result Content Cause
+abbrev pub termIn : List ℕ → Result FieldValue Cause
 termIn b =
     andThen (kindOf (getD b 0 0)) (λ k.
     andThen (formAt b) (λ f.
@@ -63,7 +63,7 @@ abbrev pub boundIn : List ℕ → ℤ
 boundIn b = toZ w32 (getD b 2 0 * 16777216 + getD b 3 0 * 65536 + getD b 4 0 * 256 + getD b 5 0)
 
 -- the content b of a field with this tag
-abbrev pub contentIn : ℕ → List ℕ → Result Content Cause
+abbrev pub contentIn : ℕ → List ℕ → Result FieldValue Cause
 contentIn tag b =
     cond (eqb tag termTag) (cond (ltb (length b) 2) (Err WrongLength) (termIn b))
     (cond (eqb tag spanTag) (cond (eqb (length b) 6) (Ok (rowField (Span (getD b 0 0) (getD b 1 0) (boundIn b)))) (Err WrongLength))
@@ -71,14 +71,14 @@ contentIn tag b =
     (cond (eqb tag unlikeTag) (cond (eqb (length b) 2) (Ok (rowField (Unlike (getD b 0 0) (getD b 1 0)))) (Err WrongLength))
     (Err UnknownTag))))
 
-abbrev pub fieldIn : List ℕ → Result Content Cause
+abbrev pub fieldIn : List ℕ → Result FieldValue Cause
 fieldIn s =
     cond (ltb (length s) 3) (Err CutShort)
     (cond (ltb (length s) (3 + statedLength s)) (Err CutShort)
     (contentIn (getD s 0 0) (take (statedLength s) (drop 3 s))))
 
 -- the field at the front of a sheet, or why there is none
-abbrev pub parse : List ℕ → Result Content Fault
+abbrev pub parse : List ℕ → Result FieldValue Fault
 parse s = inLayer readerLetter (fieldIn s)
 
 -- the bytes after the field; the whole sheet where it is refused
@@ -89,16 +89,12 @@ restAfter (Err e) s = s
 abbrev pub remaining : List ℕ → List ℕ
 remaining s = restAfter (parse s) s
 
--- what the reader answers, by its values
-abbrev pub outcome : Result Field Fault → Result Content Fault
-outcome (Ok f) = Ok (contentOf f)
+-- what was read, by its values
+abbrev pub outcome : {E : Type 0} → Result Field E → Result FieldValue E
+outcome (Ok f) = Ok (valueOf f)
 outcome (Err e) = Err e
 
--- the same of what has no layer yet, and of a field together with the bytes after it
-abbrev pub contents : Result Field Cause → Result Content Cause
-contents (Ok f) = Ok (contentOf f)
-contents (Err c) = Err c
-
-abbrev pub fieldPart : Result (Field × RefT (List ℕ)) Cause → Result Content Cause
-fieldPart (Ok p) = Ok (contentOf (p .0))
+-- the same of a field together with the bytes after it
+abbrev pub fieldPart : Result (Field × RefT (List ℕ)) Cause → Result FieldValue Cause
+fieldPart (Ok p) = Ok (valueOf (p .0))
 fieldPart (Err c) = Err c

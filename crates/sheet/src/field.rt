@@ -2,7 +2,7 @@
 use crate::row::Row;
 use crate::term::Term;
 
-// The label is a part of the sheet that the field was read from.
+// The label is borrowed: of a field that was read it is a part of the sheet.
 #[derive(Clone, Copy)]
 pub enum Field<'a> {
     Term { term: Term, label: &'a [u8] },

@@ -2,7 +2,7 @@
 ghost use mathlib.Core.Path.{_≡_};
 ghost use Prim.Native.Nat.{_+_, _≤_};
 ghost use lib.ListN.{length, drop};
-ghost use Rattle.sheet.specs.Parsing.{contents, contentIn, fieldIn, fieldPart, formAt, kindOf, outcome, parse, remaining, statedLength, termIn};
+ghost use Rattle.sheet.specs.Parsing.{contentIn, fieldIn, fieldPart, formAt, kindOf, outcome, parse, remaining, statedLength, termIn};
 ghost use Rattle.sheet.specs.RoundTrips.{ReadRight, ReadsAll};
 ghost use Rattle.std.specs.Results.{Cases};
 use crate::fault::Cause;
@@ -86,7 +86,7 @@ fn read_form(body: &[u8]) -> Result<Form, Cause>
 // The content of a term field: kind, form and label.
 fn read_term(body: &[u8]) -> Result<Field<'_>, Cause>
     requires { ⌜ 2 ≤ length (now body) ⌝ }
-    ensures { λ r. ⌜ contents r ≡ termIn (now (body .entry)) ⌝ }
+    ensures { λ r. ⌜ outcome r ≡ termIn (now (body .entry)) ⌝ }
 {
     let kind = read_kind(body[0])?;
     let form = read_form(body)?;
@@ -102,7 +102,7 @@ fn read_term(body: &[u8]) -> Result<Field<'_>, Cause>
 
 // The content of a field with this tag.
 fn read_content(tag: u8, body: &[u8]) -> Result<Field<'_>, Cause>
-    ensures { λ r. ⌜ contents r ≡ contentIn tag (now (body .entry)) ⌝ }
+    ensures { λ r. ⌜ outcome r ≡ contentIn tag (now (body .entry)) ⌝ }
 {
     match (tag as char, body) {
         ('T', [_, _, ..]) => read_term(body),

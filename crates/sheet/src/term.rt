@@ -1,17 +1,18 @@
-// Terms: what a sheet names.
+// Terms: the unknown whole numbers of a sheet.
 ghost use mathlib.Core.Path.{_≡_};
 ghost use lib.ListN.{length};
 ghost use Rattle.sheet.specs.Fields.{formBytes};
 ghost use Rattle.sheet.specs.Terms.{wellLettered};
 
-// A dated term stands for an instant, counted in ticks; a level for what a table plays at an instant.
+// A dated term is an instant, counted in ticks; a level is a value that a signal generator plays.
 #[derive(Clone, Copy)]
 pub enum Kind {
     Dated,
     Level,
 }
 
-// A term is a name, or a table applied to one or two earlier terms. Tables have letters, terms have numbers.
+// A term is a name, or a table applied to one or two other terms. A table has a letter; a term goes by its index.
+// Whether the terms stand earlier is not tested here.
 #[derive(Clone, Copy)]
 pub enum Form {
     Name,

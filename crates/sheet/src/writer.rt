@@ -2,7 +2,7 @@
 ghost use mathlib.Core.Path.{_≡_};
 ghost use mathlib.Core.List.{_++_};
 ghost use Rattle.sheet.specs.Encoding.{encode, leaving, put, written};
-ghost use Rattle.sheet.specs.Fields.{contentOf, kindByte, rowField, termField};
+ghost use Rattle.sheet.specs.Fields.{valueOf, kindByte, rowField, termField};
 ghost use Rattle.sheet.specs.RoundTrips.{ReadBack, RowFits};
 use crate::fault::Cause;
 use crate::fault::Fault;
@@ -14,21 +14,22 @@ use crate::term::Form;
 use crate::term::Kind;
 use crate::term::Term;
 
-// Writes the field at the front of the buffer, and answers its length. The bytes after it stay as they were; all of them where it refuses.
+// Writes the field at the front of the buffer, and answers its length. The bytes after it stay as they were, and where it refuses the
+// whole buffer does.
 pub fn write_field(field: &Field<'_>, out: &mut [u8]) -> Result<usize, Fault>
-    ensures answer { λ r. ⌜ r ≡ encode (contentOf (now (field .entry))) (now (out .entry)) .answer ⌝ }
-    ensures buffer { λ _. ⌜ now (out .exit) ≡ encode (contentOf (now (field .entry))) (now (out .entry)) .buffer ⌝ }
-    ensures back { λ r. ⌜ ReadBack (contentOf (now (field .entry))) (now (out .entry)) (now (out .exit)) r ⌝ }
+    ensures answer { λ r. ⌜ r ≡ encode (valueOf (now (field .entry))) (now (out .entry)) .answer ⌝ }
+    ensures buffer { λ _. ⌜ now (out .exit) ≡ encode (valueOf (now (field .entry))) (now (out .entry)) .buffer ⌝ }
+    ensures back { λ r. ⌜ ReadBack (valueOf (now (field .entry))) (now (out .entry)) (now (out .exit)) r ⌝ }
 {
-    match write_content(field, out) {
+    match write_value(field, out) {
         Ok(length) => Ok(length),
         Err(cause) => Err(cause.in_layer(READER)),
     }
 }
 
-fn write_content(field: &Field<'_>, out: &mut [u8]) -> Result<usize, Cause>
-    ensures leaves { λ r. ⌜ leaving r (now (out .exit)) ≡ written (contentOf (now (field .entry))) (now (out .entry)) ⌝ }
-    ensures fits { λ _. ⌜ RowFits (contentOf (now (field .entry))) ⌝ }
+fn write_value(field: &Field<'_>, out: &mut [u8]) -> Result<usize, Cause>
+    ensures leaves { λ r. ⌜ leaving r (now (out .exit)) ≡ written (valueOf (now (field .entry))) (now (out .entry)) ⌝ }
+    ensures fits { λ _. ⌜ RowFits (valueOf (now (field .entry))) ⌝ }
 {
     match *field {
         Field::Term { term, label } => write_term(term, label, out),

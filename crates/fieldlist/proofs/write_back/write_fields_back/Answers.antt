@@ -5,7 +5,7 @@ use borrow.Author.Needs.{needs}
 use lib.ListN.{length, take, drop}
 use Rattle.std.proofs.shelf.Lists.{length-drop, length-take, take-rest}
 use Rattle.std.proofs.shelf.Tests.{both-ways}
-use Rattle.sheet.specs.Fields.{contentOf}
+use Rattle.sheet.specs.Fields.{valueOf}
 use Rattle.fieldlist.proofs.Walking.{start, took, step, alike, copy, whole, all-copied, none-copied}
 use Rattle.fieldlist.proofs.write_back.write_fields_back.Needs as need
 
@@ -26,10 +26,10 @@ loop-rest-again-then-is-written-alike c =
     let counted = c .loop-rest .inv .1 in
     let bytes = c .loop-rest .inv .2 in
     let long = w .long in (
-      step s t u (c .loop-rest .fields) (c .loop-rest .fields + 1) (contentOf (c .in-Ok .field)) w k refl,
+      step s t u (c .loop-rest .fields) (c .loop-rest .fields + 1) (valueOf (c .in-Ok .field)) w k refl,
       omega arith,
       omega arith,
-      copy s t u b (take (length b - p) (drop p b)) (c .is-written-alike .last .part) (contentOf (c .in-Ok .field)) p k (w .place) (omega arith) refl (c .loop-rest .inv .3) (take-rest b p) (c .is-written-alike .ensures .writes),
+      copy s t u b (take (length b - p) (drop p b)) (c .is-written-alike .last .part) (valueOf (c .in-Ok .field)) p k (w .place) (omega arith) refl (c .loop-rest .inv .3) (take-rest b p) (c .is-written-alike .ensures .writes),
     )
 
 -- the field is alike, so control does not come here
@@ -46,7 +46,7 @@ loop-rest-again c =
     let long = c .loop-rest .inv .0 .long in
     let same = c .loop-rest .inv .3 .long in
     let room : length t - length u - 0 ≤ length (take (length b - p) (drop p b)) = simp (length-take, length-drop) (omega arith) in
-    let yes-it-is = c .is-written-alike .ensures .compares .1 (alike t u (take (length b - p) (drop p b)) (contentOf (c .in-Ok .field)) (length t - length u - 0) k (omega arith) room) in
+    let yes-it-is = c .is-written-alike .ensures .compares .1 (alike t u (take (length b - p) (drop p b)) (valueOf (c .in-Ok .field)) (length t - length u - 0) k (omega arith) room) in
     absurd (both-ways (c .is-written-alike .result) (c .if-is-written-alike .left) yes-it-is)
 
 pub returns : need.returns

@@ -2,7 +2,7 @@ use Rattle.std.proofs.shelf.Results.{err-from-errBy}
 use Rattle.std.specs.declared.result.Result.the-variants.{Ok, Err}
 use borrow.Author.Needs.{needs}
 use native.Mathlib.Omega.{arith}
-use Rattle.sheet.specs.Fields.{contentOf}
+use Rattle.sheet.specs.Fields.{valueOf}
 use Rattle.sheet.specs.Parsing.{statedLength}
 use Rattle.sheet.proofs.Reading.{field-found, rest-found}
 use Rattle.sheet.proofs.reader.split_field.Needs as need
@@ -15,6 +15,6 @@ returns-in-Break-field c =
 
 pub returns : need.returns
 returns c = record {
-  field = field-found (c .args .sheet .now) (Ok (contentOf (c .in-Continue-field .field))) (search needs) (omega arith) (c .in-Continue-field .ensures tt);
+  field = field-found (c .args .sheet .now) (Ok (valueOf (c .in-Continue-field .field))) (search needs) (omega arith) (c .in-Continue-field .ensures tt);
   rest = rest-found (c .args .sheet .now) (statedLength (c .args .sheet .now));
 }
