@@ -1,2 +1,3 @@
 pub mod Comparing
+pub mod Numbering
 pub mod Walking

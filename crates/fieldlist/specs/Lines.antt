@@ -34,7 +34,7 @@ wordsOfRow (Unlike i j) = codes "unlike: term " ++ (decimal i ++ (codes " <> ter
 abbrev pub textOfLabel : List ℕ → List ℕ
 textOfLabel l = joined encode l
 
--- the field with this content, which starts at byte p and has the term or row number n
+-- the field with these values, which starts at byte p and has the index n
 abbrev pub fieldLine : ℕ → ℕ → FieldValue → List ℕ
 fieldLine p n (termField t l) = codes "byte " ++ (decimal p ++ (codes ": term " ++ (decimal n ++ (codes " is " ++ (wordsOfKind (t .kind) ++ (codes ", " ++ (wordsOfForm (t .form) ++ (codes ", labelled " ++ textOfLabel l))))))))
 fieldLine p n (rowField r) = codes "byte " ++ (decimal p ++ (codes ": row " ++ (decimal n ++ (codes " says " ++ wordsOfRow r))))

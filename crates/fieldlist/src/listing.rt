@@ -1,12 +1,21 @@
-// Prints the fields of a sheet.
+// The lines of a sheet's fields.
+ghost use mathlib.Core.Path.{_≡_};
+ghost use Rattle.fieldlist.specs.Listing.{Listing, isTerm};
+ghost use Rattle.sheet.specs.Fields.{valueOf};
+ghost use Rattle.std.specs.Of.String.{string-bytes};
+ghost use Rattle.std.specs.Vec.{made};
 use crate::words::Line;
 use crate::words::LineDisplay;
 use sheet::field::Field;
 use sheet::reader::read_field;
-use std::io;
+use std::alloc::AllocError;
+use std::alloc::Global;
 
-// A line for each field, up to the first that is refused.
-pub fn print_fields(rt: &LibcRuntime, sheet: &[u8]) -> io::Result<()> {
+// A line for each field, up to the end or to the first that is refused.
+pub fn list_fields(heap: Global, sheet: &[u8]) -> Result<String, AllocError>
+    ensures { λ r. ⌜ made r (λ text. Listing (now (sheet .entry)) (string-bytes text)) ⌝ }
+{
+    let mut text = String::new(heap);
     let mut rest = sheet;
     let mut terms = 0;
     let mut rows = 0;
@@ -15,10 +24,10 @@ pub fn print_fields(rt: &LibcRuntime, sheet: &[u8]) -> io::Result<()> {
         let (outcome, after) = read_field(rest);
         let field = match outcome {
             Ok(field) => field,
-            Err(_) => return Ok(()),
+            Err(_) => return Ok(text),
         };
         // Term 0 is zero and has no field.
-        let number = if is_term(&field) {
+        let index = if is_term(&field) {
             terms += 1;
             terms
         } else {
@@ -27,16 +36,19 @@ pub fn print_fields(rt: &LibcRuntime, sheet: &[u8]) -> io::Result<()> {
         };
         let line = Line {
             place,
-            number,
+            index,
             field,
         };
-        println!(rt, "{line}")?;
+        let line = format!(heap, "{line}\n")?;
+        text.push_str(line.as_str())?;
         rest = after;
     }
-    Ok(())
+    Ok(text)
 }
 
-fn is_term(field: &Field<'_>) -> bool {
+fn is_term(field: &Field<'_>) -> bool
+    ensures { λ r. ⌜ r ≡ isTerm (valueOf (now (field .entry))) ⌝ }
+{
     match field {
         Field::Term { .. } => true,
         Field::Row(_) => false,

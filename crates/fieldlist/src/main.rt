@@ -6,7 +6,7 @@ mod write_back;
 ghost use Prim.Native.Nat.{_≤_};
 ghost use Rattle.std.specs.Of.Vec.{vec-len};
 ghost use Rattle.std.specs.Vec.{made};
-use crate::listing::print_fields;
+use crate::listing::list_fields;
 use crate::words::EndingDisplay;
 use crate::words::cause_in_words;
 use crate::write_back::Ending;
@@ -22,7 +22,7 @@ const LIMIT: usize = 8192;
 const HELP: &str = "usage: fieldlist < SHEET
 
 Lists the sheet on standard input, at most its first 8192 bytes.
-Each field gets a line: the byte where it starts, its term or row number, and what it says.
+Each field gets a line: the byte where it starts, its term or row, and what it says.
 Each field is also written again and compared with the sheet; the last line counts them.
 A field that is not well made ends the listing with the line: refused NUMBER LAYER PLACE
 
@@ -45,8 +45,9 @@ fn run(rt: &LibcRuntime) -> Result<(), AnyError> {
     }
     let mut buffer = vec![in rt.alloc(); 0u8; sheet.len()]?;
     let ending = write_fields_back(sheet.as_slice(), buffer.as_mut_slice());
-    print_fields(rt, sheet.as_slice())?;
-    print_ending(rt, ending)?;
+    let lines = list_fields(rt.alloc(), sheet.as_slice())?;
+    println!(rt, "{lines}{ending}")?;
+    explain(rt, ending)?;
     Ok(())
 }
 
@@ -75,9 +76,8 @@ fn read_sheet(rt: &LibcRuntime) -> io::Result<Vec<u8>>
     Ok(sheet)
 }
 
-// The last line, and for a person the ground of a refusal.
-fn print_ending(rt: &LibcRuntime, ending: Ending) -> io::Result<()> {
-    println!(rt, "{ending}")?;
+// Why a field was refused, for a person.
+fn explain(rt: &LibcRuntime, ending: Ending) -> io::Result<()> {
     if let Ending::Refused { fault, place } = ending {
         let why = cause_in_words(fault.cause);
         eprintln!(

@@ -10,11 +10,11 @@ use sheet::term::Form;
 use sheet::term::Kind;
 use std::fmt;
 
-// A field with the byte where it starts and its term or row number: a line of the listing.
+// A field with the byte where it starts and its index: a line of the listing.
 #[derive(Clone, Copy)]
 pub struct Line<'a> {
     pub place: usize,
-    pub number: usize,
+    pub index: usize,
     pub field: Field<'a>,
 }
 
@@ -33,11 +33,11 @@ struct RowWords(Row);
 struct LabelText<'a>(&'a [u8]);
 
 pub impl fmt::Display for Line<'_> as LineDisplay {
-    ghost shown = { λ l. Some (fieldLine (l .place) (l .number) (valueOf (l .field))) };
+    ghost shown = { λ l. Some (fieldLine (l .place) (l .index) (valueOf (l .field))) };
 
     fn fmt<W: fmt::Write>(&self, f: &mut fmt::Formatter<W>) -> fmt::Result {
         let place = self.place;
-        let number = self.number;
+        let index = self.index;
         match self.field {
             Field::Term { term, label } => {
                 let kind = KindWords(term.kind);
@@ -45,12 +45,12 @@ pub impl fmt::Display for Line<'_> as LineDisplay {
                 let label = LabelText(label);
                 write!(
                     f,
-                    "byte {place}: term {number} is {kind}, {form}, labelled {label}"
+                    "byte {place}: term {index} is {kind}, {form}, labelled {label}"
                 )
             }
             Field::Row(row) => {
                 let row = RowWords(row);
-                write!(f, "byte {place}: row {number} says {row}")
+                write!(f, "byte {place}: row {index} says {row}")
             }
         }
     }
