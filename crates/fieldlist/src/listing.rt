@@ -12,7 +12,7 @@ use std::alloc::AllocError;
 use std::alloc::Global;
 
 // A line for each field, up to the end or to the first that is refused.
-pub fn list_fields(heap: Global, sheet: &[u8]) -> Result<String, AllocError>
+pub(crate) fn list_fields(heap: Global, sheet: &[u8]) -> Result<String, AllocError>
     ensures { λ r. ⌜ made r (λ text. Listing (now (sheet .entry)) (string-bytes text)) ⌝ }
 {
     let mut text = String::new(heap);

@@ -136,7 +136,7 @@ pub impl fmt::Display for Ending as EndingDisplay {
 }
 
 // Why the reader refuses a field. It has no other ground than these five.
-pub fn cause_in_words(cause: Cause) -> &'static str {
+pub(crate) fn cause_in_words(cause: Cause) -> &'static str {
     match cause {
         Cause::CutShort => "the bytes that were read end before the field does",
         Cause::UnknownTag => "its tag is none of the letters T, S, E and U",

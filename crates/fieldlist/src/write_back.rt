@@ -28,7 +28,7 @@ pub enum Ending {
 }
 
 // Writes each field into the buffer, at the place where it stands in the sheet, and compares the two.
-pub fn write_fields_back(sheet: &[u8], buffer: &mut [u8]) -> Ending
+pub(crate) fn write_fields_back(sheet: &[u8], buffer: &mut [u8]) -> Ending
     requires { ⌜ length (now buffer) ≡ length (now sheet) ⌝ }
     ensures { λ r. ⌜ Ended (now (sheet .entry)) (now (buffer .exit)) r ⌝ }
 {

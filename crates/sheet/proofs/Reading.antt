@@ -23,7 +23,7 @@ use Rattle.sheet.specs.Parsing.{andThen, kindOf, formAt, labelAt, termIn, cont
 use Rattle.sheet.specs.RoundTrips.{ReadRight, ReadsAll}
 use Rattle.sheet.proofs.Accepting.{field-by-content, field-read, term-by-label}
 use Rattle.sheet.proofs.Inverting.{FieldBack, field-back}
-use Rattle.sheet.proofs.Writing.{gives-back}
+use Rattle.sheet.proofs.Writing.{found, gives-back}
 
 byte : {n : ℕ} → Fits w8 n → n < 256
 byte f = omega arith
@@ -51,11 +51,6 @@ field-found s r h k e =
 
 pub rest-found : (s : List ℕ) (n : ℕ) → take (length (take (length s - 3) (drop 3 s)) - n) (drop n (take (length s - 3) (drop 3 s))) ≡ drop (3 + n) s
 rest-found s n = take-rest (take (length s - 3) (drop 3 s)) n ∙ ap (drop n) (take-rest s 3) ∙ drop-drop n 3 s
-
--- what a layer accepts was found
-found : {X : Type 0} {x : X} (l : ℕ) (q : Result X Cause) → Ok x ≡ inLayer l q → q ≡ Ok x
-found l (Ok y) e = cc
-found l (Err c) e = let z : _≡_ {A = ℕ} 0 1 = cc in absurd (omega arith)
 
 -- what the reader promises above `parse`
 module _ (s : List ℕ) (typed : (i : ℕ) → Fits w8 (getD s i 0)) where

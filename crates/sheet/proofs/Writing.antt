@@ -9,12 +9,13 @@ use lib.ListN.{length, take, drop, length-append}
 use borrow.Author.Tests.{le-ltb, lt-ltb}
 use borrow.Rule.Slice.PartMut.{putMid, postOf}
 use Rattle.std.proofs.shelf.Lists.{append-assoc, drop-at, drop-drop, length-take-le, take-at}
-use Rattle.std.specs.declared.result.Result.the-variants.{Ok}
+use Rattle.std.specs.declared.result.Result.{Result}
+use Rattle.std.specs.declared.result.Result.the-variants.{Ok, Err}
 use Rattle.sheet.specs.declared.fault.Cause.{Cause}
 use Rattle.sheet.specs.declared.fault.Cause.the-variants.{BadLabel, BufferTooShort, MalformedTerm}
 use Rattle.sheet.specs.declared.row.Row.the-variants.{Span, Same, Unlike}
 use Rattle.sheet.specs.Causes.{inLayer, readerLetter}
-use Rattle.sheet.specs.Encoding.{Written, leaving, refused, put, written}
+use Rattle.sheet.specs.Encoding.{Written, encode, leaving, refused, put, written}
 use Rattle.sheet.specs.Fields.{FieldValue, termField, rowField, bytesOf, isLabel}
 use Rattle.sheet.specs.Parsing.{parse, remaining}
 use Rattle.sheet.specs.RoundTrips.{WellFormed, RowFits, WrittenAgain, ReadBack}
@@ -80,17 +81,37 @@ had-room false n after bytes out e =
     let m : n ≡ length bytes = cc (ap (λ (w : Written Cause). w .answer) e) in
     (m, ap (λ (w : Written Cause). w .buffer) e ∙ ap (λ k. bytes ++ drop k out) (sym m))
 
-written-sound : (f : FieldValue) (n : ℕ) (before after : List ℕ) → RowFits f → leaving (Ok n) after ≡ written f before → WellFormed f × (leaving (Ok n) after ≡ put (bytesOf f) before)
+-- a length is left: the bytes of the field were put down
+was-put : (f : FieldValue) (n : ℕ) (before after : List ℕ) → leaving (Ok n) after ≡ written f before → leaving (Ok n) after ≡ put (bytesOf f) before
+was-put (termField t l) n before after e = both-passed (wellLettered (t .form)) (isLabel l) n after before (put (bytesOf (termField t l)) before) e .2
+was-put (rowField r) n before after e = e
+
+written-bytes : (f : FieldValue) (n : ℕ) (before after : List ℕ) → leaving (Ok n) after ≡ written f before → (n ≡ length (bytesOf f)) × (after ≡ bytesOf f ++ drop n before)
+written-bytes f n before after e = had-room (ltb (length before) (length (bytesOf f))) n after (bytesOf f) before (was-put f n before after e)
+
+written-sound : (f : FieldValue) (n : ℕ) (before after : List ℕ) → RowFits f → leaving (Ok n) after ≡ written f before → WellFormed f
 written-sound (termField t l) n before after fits e =
     let p = both-passed (wellLettered (t .form)) (isLabel l) n after before (put (bytesOf (termField t l)) before) e in
-    ((p .0, p .1), p .2)
-written-sound (rowField r) n before after fits e = (fits, e)
+    (p .0, p .1)
+written-sound (rowField r) n before after fits e = fits
+
+-- what a layer accepts was found
+pub found : {X : Type 0} {x : X} (l : ℕ) (q : Result X Cause) → Ok x ≡ inLayer l q → q ≡ Ok x
+found l (Ok y) e = cc
+found l (Err c) e = let z : _≡_ {A = ℕ} 0 1 = cc in absurd (omega arith)
+
+-- the length that the writer answers lies within the buffer
+pub written-within : (f : FieldValue) (before : List ℕ) (n : ℕ) → Ok n ≡ encode f before .answer → n ≤ length (encode f before .buffer)
+written-within f before n e =
+    let after = written f before .buffer in
+    let left : leaving (Ok n) after ≡ written f before = ap (λ r. leaving r after) (sym (found readerLetter (written f before .answer) e)) in
+    let bytes = written-bytes f n before after left in
+    let long : n ≡ length (bytesOf f) = bytes .0 in
+    omega (arith, simp length-append at (ap length (bytes .1)))
 
 -- what was written is read back
 pub reads-back : (f : FieldValue) (n : ℕ) (before after : List ℕ) → RowFits f → leaving (Ok n) after ≡ written f before → ReadBack f before after (Ok n)
 reads-back f n before after fits e =
     let sound = written-sound f n before after fits e in
-    let room = had-room (ltb (length before) (length (bytesOf f))) n after (bytesOf f) before (sound .1) in (
-      ap parse (room .1) ∙ ap (inLayer readerLetter) (field-read f (drop n before) (sound .0)),
-      ap remaining (room .1) ∙ rest-left f (drop n before) (sound .0),
-    )
+    let bytes = written-bytes f n before after e in
+    (ap parse (bytes .1) ∙ ap (inLayer readerLetter) (field-read f (drop n before) sound), ap remaining (bytes .1) ∙ rest-left f (drop n before) sound)
