@@ -23,8 +23,8 @@ unlessRefused (Some c) s t = s
 abbrev pub attempt : State → Option Cause → State → Outcome
 attempt s o t = record { refusal = o; next = unlessRefused o s t }
 
-infixr 20 ◌orElse◌
-abbrev pub ◌orElse◌ : Option Cause → Option Cause → Option Cause
+infixr 20 ◌or_else◌
+abbrev pub ◌or_else◌ : Option Cause → Option Cause → Option Cause
 None or_else b = b
 (Some c) or_else b = Some c
 

@@ -19,8 +19,8 @@ pub trait Dating: Engine {
     // The number of each seat, in the order of the seats, and 0 at each place that is left.
     fn dates(&self) -> Result<[i64; 8], Fault>
         ensures { MatchResult result
-            (λ d. Dated (Self.Engine.rule (Self.Engine.setting self.now)) (Self.Engine.state self.now) counts (picks (Self.Engine.setting self.now)) d)
-            (λ e. Undated (Self.Engine.rule (Self.Engine.setting self.now)) (Self.Engine.state self.now) Self.Engine.letter e) };
+            (λ d. Dated (Self.rule (Self.setting self.now)) (Self.state self.now) counts (picks (Self.setting self.now)) d)
+            (λ e. Undated (Self.rule (Self.setting self.now)) (Self.state self.now) Self.letter e) };
 
     // there is only one choice of them
     ghost once: { (n : ℕ) (ts : List Term) (rows : List Row) (codes : List ℕ) (a b : List ℤ) → picks n ts rows codes a → picks n ts rows codes b → a ≡ b };

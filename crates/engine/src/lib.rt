@@ -1,3 +1,4 @@
+#![tactic(auto)]
 // Engines: parts that decide, for a list of terms and a list of rows, which arrangements of the seats they allow.
 pub mod arrangement;
 pub mod dating;

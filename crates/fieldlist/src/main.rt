@@ -1,3 +1,4 @@
+#![tactic(auto)]
 // Lists the fields of a sheet in words, writes each back, and says where a field is refused and why.
 mod listing;
 mod words;

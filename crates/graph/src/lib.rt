@@ -1,3 +1,4 @@
+#![tactic(auto)]
 // Difference constraints as a graph: a vertex for each unknown, an edge for each constraint. The theory is in specs/ and proofs/.
 
 // The number of `to` is at most that of `from` plus the weight.

@@ -8,7 +8,7 @@ use Rattle.sheet.specs.declared.fault.Fault.{Fault}
 use Rattle.sheet.specs.declared.term.Term.{Term}
 use Rattle.sheet.specs.Causes.{faultIn}
 use Rattle.sheet.specs.Fields.{FieldValue, termField, rowField}
-use Rattle.engine.specs.Calls.{◌orElse◌, codesRefusal, onNoteRow, onNoteTerm, unlessRefused}
+use Rattle.engine.specs.Calls.{◌or_else◌, codesRefusal, onNoteRow, onNoteTerm, unlessRefused}
 use Rattle.engine.specs.Refusals.{answer_in, termRefusal}
 use Rattle.engine.specs.States.{State, withRows, withTerms}
 use Rattle.engine.specs.Terms.{isDated, seatsOf}

@@ -1,3 +1,4 @@
+#![tactic(auto)]
 // Says whether the instants of a sheet alone can be met, with the first arrangement and its dates if they can.
 #[cfg(test)]
 mod cases;

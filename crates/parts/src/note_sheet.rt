@@ -29,8 +29,8 @@ pub(crate) fn note_sheet<E: Engine>(
 ) -> Result<(), Refusal>
     requires bare { seats.old.items ≡ [] }
     requires room { 8 ≤ vec_capacity seats.old }
-    ensures notes { SheetNoted letter sheet.now (state engine.new) seats.new.items result }
-    ensures keeps { setting engine.new ≡ setting engine.old }
+    ensures notes { SheetNoted E.letter sheet.now (E.state engine.new) seats.new.items result }
+    ensures keeps { E.setting engine.new ≡ E.setting engine.old }
 {
     engine.renew();
     // Zero is there without a field.
@@ -63,8 +63,8 @@ pub(crate) fn note_sheet<E: Engine>(
 // Makes the engine new again, and answers the refusal.
 fn refuse<E: Engine>(engine: &mut E, fault: Fault, place: usize) -> Result<(), Refusal>
     ensures answers { result ≡ Err (record { fault = fault; place = place }) }
-    ensures leaves { state engine.new ≡ newState }
-    ensures keeps { setting engine.new ≡ setting engine.old }
+    ensures leaves { E.state engine.new ≡ newState }
+    ensures keeps { E.setting engine.new ≡ E.setting engine.old }
 {
     engine.renew();
     Err(Refusal { fault, place })
@@ -72,10 +72,10 @@ fn refuse<E: Engine>(engine: &mut E, fault: Fault, place: usize) -> Result<(), R
 
 // Notes a field. `has_row` says whether a row was noted before: then no term may follow.
 fn note_field<E: Engine>(engine: &mut E, field: &Field<'_>, has_row: bool) -> Result<(), Fault>
-    requires { has_row ≡ hasRow (state engine.old) }
-    ensures answers { result ≡ fieldAnswer letter (state engine.old) (value_of field.now) }
-    ensures leaves { state engine.new ≡ afterField (state engine.old) (value_of field.now) }
-    ensures keeps { setting engine.new ≡ setting engine.old }
+    requires { has_row ≡ hasRow (E.state engine.old) }
+    ensures answers { result ≡ fieldAnswer E.letter (E.state engine.old) (value_of field.now) }
+    ensures leaves { E.state engine.new ≡ afterField (E.state engine.old) (value_of field.now) }
+    ensures keeps { E.setting engine.new ≡ E.setting engine.old }
 {
     match *field {
         Field::Term { term, .. } => {

@@ -7,9 +7,9 @@ use engine::engine::Engine;
 
 // Places the next seat by the least code that keeps the engine open, if one does. Where every seat is placed, none does.
 pub(crate) fn place_least<E: Engine>(engine: &mut E) -> Option<u8>
-    requires { length (seatsOf (state engine.old).terms) ≤ 8 }
-    ensures places { LeastPlaced (rule (setting engine.old)) (state engine.old) (state engine.new) result }
-    ensures keeps { setting engine.new ≡ setting engine.old }
+    requires { length (seatsOf (E.state engine.old).terms) ≤ 8 }
+    ensures places { LeastPlaced (E.rule (E.setting engine.old)) (E.state engine.old) (E.state engine.new) result }
+    ensures keeps { E.setting engine.new ≡ E.setting engine.old }
 {
     let mut code = 0;
     loop {
@@ -27,10 +27,10 @@ pub(crate) fn place_least<E: Engine>(engine: &mut E) -> Option<u8>
 
 // Places the seats that are left by the first arrangement that is allowed, if there is one, and adds its codes to `codes`.
 pub(crate) fn place_first<E: Engine>(engine: &mut E, codes: &mut Vec<u8>) -> bool
-    requires few { length (seatsOf (state engine.old).terms) ≤ 8 }
+    requires few { length (seatsOf (E.state engine.old).terms) ≤ 8 }
     requires room { vec_len codes.old + 8 ≤ vec_capacity codes.old }
-    ensures places { FirstPlaced (rule (setting engine.old)) (state engine.old) (state engine.new) codes.old.items codes.new.items result }
-    ensures keeps { setting engine.new ≡ setting engine.old }
+    ensures places { FirstPlaced (E.rule (E.setting engine.old)) (E.state engine.old) (E.state engine.new) codes.old.items codes.new.items result }
+    ensures keeps { E.setting engine.new ≡ E.setting engine.old }
 {
     if !engine.open() {
         return false;

@@ -1,3 +1,4 @@
+#![tactic(auto)]
 // A sheet is a run of bytes: fields of terms, then fields of rows. Its types, and the reader and the writer of one field.
 pub mod fault;
 pub mod field;

@@ -1,5 +1,5 @@
 // The reader: the field at the front of a sheet.
-ghost use Rattle.std.specs.Prelude.{◌≡◌, ◌+◌, ◌≤◌, length, drop, IfOk};
+ghost use Rattle.std.specs.Prelude.{◌≡◌, ◌+◌, ◌≤◌, length, drop, IfOk, MatchResult};
 ghost use Rattle.sheet.specs.Parsing.{contentIn, fieldIn, fieldPart, formAt, kind_of, outcome, parse, remaining, statedLength, termIn};
 ghost use Rattle.sheet.specs.RoundTrips.{ReadRight, ReadsAll};
 
@@ -15,7 +15,7 @@ pub fn read_field(sheet: &[u8]) -> (Result<Field<'_>, Fault>, &[u8])
     ensures rest { result.1.now ≡ remaining sheet.now }
     ensures sound { ReadRight sheet.now (outcome result.0) }
     ensures complete { ReadsAll sheet.now (outcome result.0) }
-    ensures used { Cases result.0 (λ _. length result.1.now + (3 + statedLength sheet.now) ≡ length sheet.now) (λ _. result.1.now ≡ sheet.now) }
+    ensures used { MatchResult result.0 (λ _. length result.1.now + (3 + statedLength sheet.now) ≡ length sheet.now) (λ _. result.1.now ≡ sheet.now) }
 {
     read_front(sheet)
 }

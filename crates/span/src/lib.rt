@@ -1,3 +1,4 @@
+#![tactic(auto)]
 // The span engine: difference bounds between instants, decided by Bellman-Ford.
 mod constraints;
 pub mod deciding;

@@ -1,3 +1,4 @@
+#![tactic(auto)]
 // Tables of cases for the span engine.
 #[cfg(test)]
 mod calls;

@@ -5,8 +5,8 @@ use Rattle.engine.proofs.Ranks.{moved_up, moved-not}
 use Rattle.engine.proofs.arrangement.open_block.Goals as goal
 use Rattle.engine.proofs.arrangement.open_block.Goals.{then-rank-block, else-rank-block}
 
-pub overflow-add-rank : goal.overflow-add-rank
-overflow-add-rank c =
+pub overflow_add-rank : goal.overflow_add-rank
+overflow_add-rank c =
     let xs = c.args.ranks.now in
     let i = c.loop-rank.rank-index in
     let within : i < length xs = c.loop-rank-test.true in

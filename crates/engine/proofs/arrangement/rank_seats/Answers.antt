@@ -4,8 +4,8 @@ use Rattle.engine.proofs.RankArrays.{ranked, low-item, low-next, front-is, opene
 use Rattle.engine.proofs.arrangement.rank_seats.Goals as goal
 use Rattle.engine.proofs.arrangement.rank_seats.Goals.{then-code-eq0, else-code-eq0}
 
-pub open-block-requires : goal.open-block-requires
-open-block-requires c i h =
+pub open_block-requires : goal.open_block-requires
+open_block-requires c i h =
     let cs = c.args.codes.now in
     let k = c.loop-k.k in
     let l : k < length cs = omega arith in
@@ -22,10 +22,10 @@ loop-k-preserved c =
     let few : k < 8 = omega arith in
     let next : set c.if-code-eq0.ranks k (get_or cs k 0 / 2) ≡ ranked cs (k + 1) =
     elim c.if-code-eq0.branch [
-      | then-code-eq0 w ↦ opened cs k l few c.loop-k.ranks w.open-block.new.ranks c.if-code-eq0.ranks c.loop-k.invariant.1 w.if-code-eq0.true w.open-block.ensures w.ranks-is
+      | then-code-eq0 w ↦ opened cs k l few c.loop-k.ranks w.open_block.new.ranks c.if-code-eq0.ranks c.loop-k.invariant.1 w.if-code-eq0.true w.open_block.ensures w.ranks-is
       | else-code-eq0 w ↦ joined cs k l few c.loop-k.ranks c.if-code-eq0.ranks c.loop-k.invariant.1 w.if-code-eq0.false w.ranks-is
     ] in
-    let small : get_or cs k 0 < 256 = omega (arith, c.type-inv.codes k) in
+    let small : get_or cs k 0 < 256 = omega (arith, c.type_inv.codes k) in
     (ap length next ∙ length-ranked cs (k + 1) (omega arith) (omega arith), next, low-next cs k l few small c.loop-k.invariant.2)
 
 pub returns : goal.returns

@@ -2,19 +2,19 @@ use Rattle.std.proofs.Common.{◌+◌, cond, drop, ap, ◌∙◌, arith}
 use Rattle.engine.specs.Terms.{zeroTerm}
 use Rattle.engine.proofs.Counting.{seatCount, seats-more, seats-end}
 use Rattle.engine.proofs.terms.count_seats.Goals as goal
-use Rattle.engine.proofs.terms.count_seats.Goals.{then-is-dated, else-is-dated}
+use Rattle.engine.proofs.terms.count_seats.Goals.{then-is_dated, else-is_dated}
 
 pub loop-term-preserved : goal.loop-term-preserved
 loop-term-preserved c =
     let ts = c.args.terms.now in
     let i = c.loop-term.term-index in
-    let s = seats-more zeroTerm ts i c.is-dated.result c.loop-term-test.true c.is-dated.ensures in
-    elim c.if-is-dated.branch [
-      | then-is-dated w ↦
-          let t = s ∙ ap (λ b. cond b 1 0 + seatCount (drop (i + 1) ts)) w.if-is-dated.true in
+    let s = seats-more zeroTerm ts i c.is_dated.result c.loop-term-test.true c.is_dated.ensures in
+    elim c.if-is_dated.branch [
+      | then-is_dated w ↦
+          let t = s ∙ ap (λ b. cond b 1 0 + seatCount (drop (i + 1) ts)) w.if-is_dated.true in
           (omega (arith, w.count-is), omega (arith, w.count-is))
-      | else-is-dated w ↦
-          let t = s ∙ ap (λ b. cond b 1 0 + seatCount (drop (i + 1) ts)) w.if-is-dated.false in
+      | else-is_dated w ↦
+          let t = s ∙ ap (λ b. cond b 1 0 + seatCount (drop (i + 1) ts)) w.if-is_dated.false in
           (omega (arith, w.count-is), omega (arith, w.count-is))
     ]
 

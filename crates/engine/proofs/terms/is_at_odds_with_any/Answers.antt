@@ -3,19 +3,19 @@ use Rattle.engine.specs.Terms.{zeroTerm, anyAtOdds}
 use Rattle.engine.proofs.Counting.{odds-more, odds-end}
 use Rattle.engine.proofs.terms.is_at_odds_with_any.Goals as goal
 
-pub returns-then-are-at-odds : goal.returns-then-are-at-odds
-returns-then-are-at-odds c =
+pub returns-then-are_at_odds : goal.returns-then-are_at_odds
+returns-then-are_at_odds c =
     let ts = c.args.terms.now in
     let i = c.loop-term.term-index in
-    let s = odds-more zeroTerm c.args.form ts i c.are-at-odds.result c.loop-term-test.true c.are-at-odds.ensures in
-    sym (sym c.loop-term.invariant ∙ s ∙ ap (λ b. b || anyAtOdds c.args.form (drop (i + 1) ts)) c.if-are-at-odds.true)
+    let s = odds-more zeroTerm c.args.form ts i c.are_at_odds.result c.loop-term-test.true c.are_at_odds.ensures in
+    sym (sym c.loop-term.invariant ∙ s ∙ ap (λ b. b || anyAtOdds c.args.form (drop (i + 1) ts)) c.if-are_at_odds.true)
 
 pub loop-term-preserved : goal.loop-term-preserved
 loop-term-preserved c =
     let ts = c.args.terms.now in
     let i = c.loop-term.term-index in
-    let s = odds-more zeroTerm c.args.form ts i c.are-at-odds.result c.loop-term-test.true c.are-at-odds.ensures in
-    sym (ap (λ b. b || anyAtOdds c.args.form (drop (i + 1) ts)) c.if-are-at-odds.false) ∙ sym s ∙ c.loop-term.invariant
+    let s = odds-more zeroTerm c.args.form ts i c.are_at_odds.result c.loop-term-test.true c.are_at_odds.ensures in
+    sym (ap (λ b. b || anyAtOdds c.args.form (drop (i + 1) ts)) c.if-are_at_odds.false) ∙ sym s ∙ c.loop-term.invariant
 
 pub returns : goal.returns
 returns c = sym (odds-end c.args.form c.args.terms.now c.loop-term.term-index c.loop-term-test.false) ∙ c.loop-term.invariant

@@ -9,7 +9,7 @@ use Rattle.fieldlist.specs.Listing.{Lines, isTerm, none}
 use Rattle.fieldlist.proofs.Numbering.{lines_more}
 use Rattle.fieldlist.proofs.Walking.{took}
 use Rattle.fieldlist.proofs.listing.list_fields.Goals as goal
-use Rattle.fieldlist.proofs.listing.list_fields.Goals.{then-is-term, else-is-term}
+use Rattle.fieldlist.proofs.listing.list_fields.Goals.{then-is_term, else-is_term}
 
 pub loop-rest-init : goal.loop-rest-init
 loop-rest-init c = (subst (λ x. Lines c.args.sheet.now 0 0 x c.args.sheet.now) (sym c.new-text.ensures.bytes) none, omega arith)
@@ -18,21 +18,21 @@ pub loop-rest-preserved : goal.loop-rest-preserved
 loop-rest-preserved c =
     let s = c.args.sheet.now in
     let t = c.loop-rest.rest.now in
-    let u = c.read-field.result.1.now in
-    let e = c.read-field.ensures in
+    let u = c.read_field.result.1.now in
+    let e = c.read_field.ensures in
     let f = value_of c.in-Ok.field in
-    let k = took t u c.read-field.result.0 c.in-Ok.field c.in-Ok.is e.answer e.rest e.sound e.used in
+    let k = took t u c.read_field.result.0 c.in-Ok.field c.in-Ok.is e.answer e.rest e.sound e.used in
     let used = k.used in
     let room = c.loop-rest.invariant.1 in
-    let joined = pushed c.as-str.result.now refl c.in-ok-push-str.was c.push-str.ensures.bytes in
-    let line = c.as-str.ensures.value ∙ c.in-ok-line.ensures.ok in
-    let step : (b : Bool) → b ≡ isTerm f → c.if-is-term.terms ≡ c.loop-rest.terms + cond b 1 0 → c.if-is-term.rows ≡ c.loop-rest.rows + cond b 0 1 → c.if-is-term.index ≡ cond b (c.loop-rest.terms + 1) c.loop-rest.rows → Lines s c.if-is-term.terms c.if-is-term.rows (string_bytes c.push-str.new.self) u =
-    λ b kind terms rows index. lines_more s t u (string_bytes c.loop-rest.text) (string_bytes c.push-str.new.self) c.as-str.result.now c.loop-rest.terms c.loop-rest.rows c.if-is-term.terms c.if-is-term.rows c.if-is-term.index f b c.loop-rest.invariant.0 k.read k.rest kind terms rows index line joined in (
-      elim c.if-is-term.branch [
-        | then-is-term w ↦ step true (sym w.if-is-term.true ∙ c.is-term.ensures) w.terms-is (omega (arith, w.rows-is)) w.index-is
-        | else-is-term w ↦ step false (sym w.if-is-term.false ∙ c.is-term.ensures) (omega (arith, w.terms-is)) w.rows-is (omega (arith, w.index-is))
+    let joined = pushed c.as_str.result.now refl c.in_ok-push_str.was c.push_str.ensures.bytes in
+    let line = c.as_str.ensures.value ∙ c.in_ok-line.ensures.ok in
+    let step : (b : Bool) → b ≡ isTerm f → c.if-is_term.terms ≡ c.loop-rest.terms + cond b 1 0 → c.if-is_term.rows ≡ c.loop-rest.rows + cond b 0 1 → c.if-is_term.index ≡ cond b (c.loop-rest.terms + 1) c.loop-rest.rows → Lines s c.if-is_term.terms c.if-is_term.rows (string_bytes c.push_str.new.self) u =
+    λ b kind terms rows index. lines_more s t u (string_bytes c.loop-rest.text) (string_bytes c.push_str.new.self) c.as_str.result.now c.loop-rest.terms c.loop-rest.rows c.if-is_term.terms c.if-is_term.rows c.if-is_term.index f b c.loop-rest.invariant.0 k.read k.rest kind terms rows index line joined in (
+      elim c.if-is_term.branch [
+        | then-is_term w ↦ step true (sym w.if-is_term.true ∙ c.is_term.ensures) w.terms-is (omega (arith, w.rows-is)) w.index-is
+        | else-is_term w ↦ step false (sym w.if-is_term.false ∙ c.is_term.ensures) (omega (arith, w.terms-is)) w.rows-is (omega (arith, w.index-is))
       ],
-      elim c.if-is-term.branch [ then-is-term w ↦ omega (arith, w.terms-is, w.rows-is) | else-is-term w ↦ omega (arith, w.terms-is, w.rows-is) ],
+      elim c.if-is_term.branch [ then-is_term w ↦ omega (arith, w.terms-is, w.rows-is) | else-is_term w ↦ omega (arith, w.terms-is, w.rows-is) ],
     )
 
 pub returns : goal.returns

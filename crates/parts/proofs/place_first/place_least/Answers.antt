@@ -28,8 +28,8 @@ returns-then-open g c =
       keeps = c.place.ensures.keeps ∙ c.loop-engine.invariant.kept;
     }
 
-pub overflow-add-code : goal.overflow-add-code
-overflow-add-code g c =
+pub overflow_add-code : goal.overflow_add-code
+overflow_add-code g c =
     let f = g.E.Engine in
     let a = c.args.engine.now in
     let x = c.loop-engine.engine in

@@ -11,6 +11,6 @@ loop-place-preserved c =
     let date : ℤ = get_or c.args.dates.now p (pos 0) in
     let line : ℤ → List ℕ = λ d. 10 ∷ seatLine p (get_or c.args.seats.now p 0) (get_or c.args.codes.now p 0) d in
     let fits : SFits w64 date = search rules in
-    let written : c.as-str.result.now ≡ line (to_z w64 (of_z w64 date)) = c.as-str.ensures.value ∙ c.in-ok-line.ensures.ok in
-    let joined = pushed c.as-str.result.now refl c.in-ok-push-str.was c.push-str.ensures.bytes in
-    lines_more c.args.codes.now c.args.seats.now c.args.dates.now p (string_bytes c.loop-place.text) c.as-str.result.now (string_bytes c.push-str.new.self) c.loop-place.invariant (written ∙ ap line (to_z-of_z w64 date fits)) joined
+    let written : c.as_str.result.now ≡ line (to_z w64 (of_z w64 date)) = c.as_str.ensures.value ∙ c.in_ok-line.ensures.ok in
+    let joined = pushed c.as_str.result.now refl c.in_ok-push_str.was c.push_str.ensures.bytes in
+    lines_more c.args.codes.now c.args.seats.now c.args.dates.now p (string_bytes c.loop-place.text) c.as_str.result.now (string_bytes c.push_str.new.self) c.loop-place.invariant (written ∙ ap line (to_z-of_z w64 date fits)) joined

@@ -3,18 +3,18 @@ use Rattle.parts.proofs.Listing.{listable}
 use Rattle.parts.proofs.Reporting.{report-once}
 use Rattle.parts.proofs.report.report_sheet.Goals as goal
 
-pub write-lines-requires : goal.write-lines-requires
-write-lines-requires g c =
+pub write_lines-requires : goal.write_lines-requires
+write_lines-requires g c =
     let f = g.E.Engine in
     let n = f.setting c.args.engine.now in
     listable (f.rule n) g.E.Dating.counts (g.E.Dating.picks n) f.letter c.args.sheet.now (f.state c.diagnose-diagnosis.new.engine) c.diagnose-diagnosis.result c.diagnose-diagnosis.ensures.tells
 
-pub returns-in-Ok-write-lines : goal.returns-in-Ok-write-lines
-returns-in-Ok-write-lines g c =
+pub returns-in-Ok-write_lines : goal.returns-in-Ok-write_lines
+returns-in-Ok-write_lines g c =
     let f = g.E.Engine in
     let n = f.setting c.args.engine.now in
     let told = c.diagnose-diagnosis.ensures.tells in
-    let text = c.in-Ok-write-lines.ensures in
+    let text = c.in-Ok-write_lines.ensures in
     record {
       keeps = c.diagnose-diagnosis.ensures.keeps;
       tells = told;

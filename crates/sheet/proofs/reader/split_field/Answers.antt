@@ -5,14 +5,14 @@ use Rattle.sheet.specs.Parsing.{statedLength}
 use Rattle.sheet.proofs.Reading.{field_found, rest-found}
 use Rattle.sheet.proofs.reader.split_field.Goals as goal
 
-pub returns-in-err-field : goal.returns-in-err-field
-returns-in-err-field c =
-    let p = err_from_is_err_and c.from-residual.result c.from-residual.ensures.1 in
-    let found = field_found c.args.sheet.now (Err c.in-err-field.field-0.0) (search rules) (omega arith) c.in-err-field.ensures in
+pub returns-in_err-field : goal.returns-in_err-field
+returns-in_err-field c =
+    let p = err_from_is_err_and c.from_residual.result c.from_residual.ensures.1 in
+    let found = field_found c.args.sheet.now (Err c.in_err-field.field-0.0) (search rules) (omega arith) c.in_err-field.ensures in
     rw (p.1, p.2) (record { field = found; rest = tt })
 
 pub returns : goal.returns
 returns c = record {
-  field = field_found c.args.sheet.now (Ok (value_of c.in-ok-field.field)) (search rules) (omega arith) c.in-ok-field.ensures;
+  field = field_found c.args.sheet.now (Ok (value_of c.in_ok-field.field)) (search rules) (omega arith) c.in_ok-field.ensures;
   rest = rest-found c.args.sheet.now (statedLength c.args.sheet.now);
 }

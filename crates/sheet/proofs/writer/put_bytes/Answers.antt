@@ -7,4 +7,4 @@ returns-then-out-start c = put_refused c.args.head.now c.args.tail.now c.args.ou
 
 pub returns : goal.returns
 returns c =
-    put_both c.args.head.now c.args.tail.now c.args.out.now c.copy-from-slice.new.self c.copy-from-slice-2.new.self c.copy-from-slice.ensures.after c.copy-from-slice-2.ensures.after (omega arith)
+    put_both c.args.head.now c.args.tail.now c.args.out.now c.copy_from_slice.new.self c.copy_from_slice-2.new.self c.copy_from_slice.ensures.after c.copy_from_slice-2.ensures.after (omega arith)

@@ -12,5 +12,5 @@ returns-in-Ok c =
     record {
       answer = ap (λ (w : Written Cause). inLayer readerLetter w.answer) e;
       buffer = ap (λ (w : Written Cause). w.buffer) e;
-      back = reads-back (value_of c.args.field.now) c.in-Ok.length c.args.out.now c.write-value.new.out c.in-Ok.ensures.fits e;
+      back = reads-back (value_of c.args.field.now) c.in-Ok.length c.args.out.now c.write_value.new.out c.in-Ok.ensures.fits e;
     }

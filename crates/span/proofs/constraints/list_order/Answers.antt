@@ -12,8 +12,8 @@ later xs i = take (length xs - (i + 1)) (drop (i + 1) xs)
 cut : (ss rs : List ℕ) (i : ℕ) → i < length rs → length rs ≤ length ss → orderEdges (drop i ss) (drop i rs) ≡ edgesWith (get_or ss i 0) (get_or rs i 0) (later ss i) (later rs i) ++ orderEdges (drop (i + 1) ss) (drop (i + 1) rs)
 cut ss rs i l m = order-more ss rs i l m ∙ (λ k. edgesWith (get_or ss i 0) (get_or rs i 0) (sym (take_rest ss (i + 1)) k) (sym (take_rest rs (i + 1)) k) ++ orderEdges (drop (i + 1) ss) (drop (i + 1) rs))
 
-pub list-pairs-requires : goal.list-pairs-requires
-list-pairs-requires c =
+pub list_pairs-requires : goal.list_pairs-requires
+list_pairs-requires c =
     let ss = c.args.seats.now in
     let rs = c.args.ranks.now in
     let i = c.loop-p.p in
@@ -31,7 +31,7 @@ loop-p-preserved c =
     let ss = c.args.seats.now in
     let rs = c.args.ranks.now in
     let i = c.loop-p.p in
-    listed_more (edgesWith (get_or ss i 0) (get_or rs i 0) (later ss i) (later rs i)) (orderEdges (drop (i + 1) ss) (drop (i + 1) rs)) (orderEdges (drop i ss) (drop i rs)) (listed c.args.list.now ++ orderEdges ss rs) (listed c.loop-p.list) (listed c.list-pairs.new.list) (cut ss rs i c.loop-p-test.true c.requires.ranked) c.loop-p.invariant c.list-pairs.ensures
+    listed_more (edgesWith (get_or ss i 0) (get_or rs i 0) (later ss i) (later rs i)) (orderEdges (drop (i + 1) ss) (drop (i + 1) rs)) (orderEdges (drop i ss) (drop i rs)) (listed c.args.list.now ++ orderEdges ss rs) (listed c.loop-p.list) (listed c.list_pairs.new.list) (cut ss rs i c.loop-p-test.true c.requires.ranked) c.loop-p.invariant c.list_pairs.ensures
 
 pub returns : goal.returns
 returns c =

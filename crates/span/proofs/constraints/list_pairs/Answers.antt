@@ -4,8 +4,8 @@ use Rattle.span.specs.Lists.{listed}
 use Rattle.span.specs.Parts.{listed_more, part-fits, all_listed, pairs-more, pairs_end}
 use Rattle.span.proofs.constraints.list_pairs.Goals as goal
 
-pub list-pair-requires : goal.list-pair-requires
-list-pair-requires c =
+pub list_pair-requires : goal.list_pair-requires
+list_pair-requires c =
     let s = c.args.s in
     let r = c.args.r in
     let ss = c.args.seats.now in
@@ -22,7 +22,7 @@ loop-p-preserved c =
     let ss = c.args.seats.now in
     let rs = c.args.ranks.now in
     let i = c.loop-p.p in
-    listed_more (pairEdges s r (get_or ss i 0) (get_or rs i 0)) (edgesWith s r (drop (i + 1) ss) (drop (i + 1) rs)) (edgesWith s r (drop i ss) (drop i rs)) (listed c.args.list.now ++ edgesWith s r ss rs) (listed c.loop-p.list) (listed c.list-pair.new.list) (pairs-more s r ss rs i c.loop-p-test.true c.requires.ranked) c.loop-p.invariant c.list-pair.ensures
+    listed_more (pairEdges s r (get_or ss i 0) (get_or rs i 0)) (edgesWith s r (drop (i + 1) ss) (drop (i + 1) rs)) (edgesWith s r (drop i ss) (drop i rs)) (listed c.args.list.now ++ edgesWith s r ss rs) (listed c.loop-p.list) (listed c.list_pair.new.list) (pairs-more s r ss rs i c.loop-p-test.true c.requires.ranked) c.loop-p.invariant c.list_pair.ensures
 
 pub returns : goal.returns
 returns c =

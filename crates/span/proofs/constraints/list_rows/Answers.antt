@@ -10,8 +10,8 @@ use Rattle.span.proofs.constraints.list_rows.Goals as goal
 abbrev unread : Noted
 unread = record { row = Span 0 0 (pos 0); active = false }
 
-pub list-row-requires : goal.list-row-requires
-list-row-requires c =
+pub list_row-requires : goal.list_row-requires
+list_row-requires c =
     let ms = c.args.rows.now in
     let i = c.loop-noted.noted-index in
     let whole = listed c.args.list.now ++ rowEdges (active ms) in
@@ -22,7 +22,7 @@ pub loop-noted-preserved : goal.loop-noted-preserved
 loop-noted-preserved c =
     let ms = c.args.rows.now in
     let i = c.loop-noted.noted-index in
-    listed_more (rowEdges (active (get_or ms i unread ∷ []))) (rowEdges (active (drop (i + 1) ms))) (rowEdges (active (drop i ms))) (listed c.args.list.now ++ rowEdges (active ms)) (listed c.loop-noted.list) (listed c.list-row.new.list) (rows_more unread ms i c.loop-noted-test.true) c.loop-noted.invariant c.list-row.ensures
+    listed_more (rowEdges (active (get_or ms i unread ∷ []))) (rowEdges (active (drop (i + 1) ms))) (rowEdges (active (drop i ms))) (listed c.args.list.now ++ rowEdges (active ms)) (listed c.loop-noted.list) (listed c.list_row.new.list) (rows_more unread ms i c.loop-noted-test.true) c.loop-noted.invariant c.list_row.ensures
 
 pub returns : goal.returns
 returns c =

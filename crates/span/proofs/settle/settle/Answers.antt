@@ -10,15 +10,15 @@ rounds-init c = (first_round (length c.args.distances.now) c.args.limit c.args.e
 pub edges-init : goal.edges-init
 edges-init c = first_edge (length c.args.distances.now) c.args.limit c.args.edges.now c.rounds.round c.rounds.distances c.requires.within c.rounds.auto.distances c.rounds.invariant.0
 
-pub overflow-add-through : goal.overflow-add-through
-overflow-add-through c =
-    let fits : SFits w32 (get_or c.args.edges.now c.edges.edge_index none).weight = search rules in
-    summed-fits (128 * c.rounds.round + c.edges.edge_index) (get_or c.args.edges.now c.edges.edge_index none) c.edges.distances c.from.result (omega arith) c.edges.invariant.deep fits c.from.ensures
+pub overflow_add-through : goal.overflow_add-through
+overflow_add-through c =
+    let fits : SFits w32 (get_or c.args.edges.now c.edges.edge-index none).weight = search rules in
+    summed-fits (128 * c.rounds.round + c.edges.edge-index) (get_or c.args.edges.now c.edges.edge-index none) c.edges.distances c.from.result (omega arith) c.edges.invariant.deep fits c.from.ensures
 
 pub edges-preserved : goal.edges-preserved
 edges-preserved c =
     let es : List Edge = c.args.edges.now in
-    let i : ℕ = c.edges.edge_index in
+    let i : ℕ = c.edges.edge-index in
     let d : List ℤ = c.edges.distances in
     let e : Edge = get_or es i none in
     let small : 128 * c.rounds.round + i ≤ 1152 = omega arith in
@@ -37,14 +37,14 @@ edges-preserved c =
 
 pub rounds-preserved : goal.rounds-preserved
 rounds-preserved c = (
-  next-round (length c.args.distances.now) c.args.limit c.args.edges.now c.rounds.round c.rounds.distances c.edges.edge_index c.edges.distances c.edges.lowered c.rounds.invariant.0 c.edges.invariant c.requires.few c.edges.auto.edge-index-end c.edges-test.false c.if-not-lowered.false,
+  next-round (length c.args.distances.now) c.args.limit c.args.edges.now c.rounds.round c.rounds.distances c.edges.edge-index c.edges.distances c.edges.lowered c.rounds.invariant.0 c.edges.invariant c.requires.few c.edges.auto.edge-index-end c.edges-test.false c.if-not-lowered.false,
   c.rounds.invariant.1,
 )
 
 pub returns-then-round-limit : goal.returns-then-round-limit
 returns-then-round-limit c =
     let es : List Edge = c.args.edges.now in
-    let i : ℕ = c.edges.edge_index in
+    let i : ℕ = c.edges.edge-index in
     let d : List ℤ = c.edges.distances in
     let small : 128 * c.rounds.round + i ≤ 1152 = omega arith in
     let fits : SFits w32 (get_or es i none).weight = search rules in
@@ -54,7 +54,7 @@ returns-then-round-limit c =
 
 pub returns-then-not-lowered : goal.returns-then-not-lowered
 returns-then-not-lowered c =
-    let made = settled-early (length c.args.distances.now) c.args.limit c.args.edges.now c.rounds.round c.rounds.distances c.edges.edge_index c.edges.distances c.edges.lowered c.rounds.invariant.0 c.edges.invariant c.edges-test.false c.if-not-lowered.true in
+    let made = settled-early (length c.args.distances.now) c.args.limit c.args.edges.now c.rounds.round c.rounds.distances c.edges.edge-index c.edges.distances c.edges.lowered c.rounds.invariant.0 c.edges.invariant c.edges-test.false c.if-not-lowered.true in
     record { made = made.0; told = made.1 }
 
 -- round `limit` ends the loops: it lowers nothing, or is left at the first edge that could

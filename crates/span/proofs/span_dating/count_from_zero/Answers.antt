@@ -5,8 +5,8 @@ use Rattle.span.specs.Dating.{InLimits, fromZero}
 use Rattle.span.specs.Dates.{date-next, stored}
 use Rattle.span.proofs.span_dating.count_from_zero.Goals as goal
 
-pub date-of-requires : goal.date-of-requires
-date-of-requires c =
+pub date_of-requires : goal.date_of-requires
+date_of-requires c =
     record { long = c.requires.long; zero = c.requires.zero; low = All-get_or (InLimits c.args.distances.now) c.args.seats.now c.loop-p.p 0 c.loop-p-test.true c.requires.each }
 
 pub loop-p-preserved : goal.loop-p-preserved
@@ -14,9 +14,9 @@ loop-p-preserved c =
     let d = c.args.distances.now in
     let ss = c.args.seats.now in
     let i = c.loop-p.p in
-    let x : ℤ = to_z w64 (of_z w64 c.date-of.result) in
+    let x : ℤ = to_z w64 (of_z w64 c.date_of.result) in
     let low = All-get_or (InLimits d) ss i 0 c.loop-p-test.true c.requires.each in
-    (length-set c.loop-p.dates i x ∙ c.loop-p.invariant.0, date-next d ss c.loop-p.dates i x c.loop-p-test.true (omega (arith, c.requires.few)) c.loop-p.invariant.1 (stored d (get_or ss i 0) c.date-of.result low c.requires.zero c.date-of.ensures))
+    (length-set c.loop-p.dates i x ∙ c.loop-p.invariant.0, date-next d ss c.loop-p.dates i x c.loop-p-test.true (omega (arith, c.requires.few)) c.loop-p.invariant.1 (stored d (get_or ss i 0) c.date_of.result low c.requires.zero c.date_of.ensures))
 
 pub returns : goal.returns
 returns c =

@@ -4,13 +4,17 @@ use Rattle.engine.specs.Arrangements.{isValid}
 use Rattle.engine.proofs.Ranks.{valid-front}
 use Rattle.engine.proofs.holdings.Holdings.lift.Goals as goal
 
-pub invariant-of-self : goal.invariant-of-self
-invariant-of-self c =
+pub invariant_of-self-clause-codes_fit : goal.invariant_of-self-clause-codes_fit
+invariant_of-self-clause-codes_fit c =
     let h = c.args.self.now in
     let cs = vec_items h.codes in
     let n = length cs - 1 in
-    let left : vec_len c.remove-last.new.items ≡ length (take n cs) = c.remove-last.new.items.ok.0 ∙ ap length c.remove-last.ensures.items in
-    let fit : vec_len c.remove-last.new.items ≤ vec_len h.seats = omega (arith, length-take n cs, h.codes.ok.0, h.codes_fit) in
-    let valid : isValid 0 (vec_items c.remove-last.new.items) ≡ true =
-    ap (isValid 0) c.remove-last.ensures.items ∙ valid-front 0 (take n cs) (drop n cs) (ap (isValid 0) (take-append-drop n cs) ∙ h.codes_valid) in
-    (h.term_room, (h.seat_room, (h.row_room, (omega (arith, h.code_room), (h.few_terms, (h.few_seats, (h.few_rows, (h.terms_fit, (h.seats_listed, (h.rows_fit, (fit, (valid, tt))))))))))))
+    let left : vec_len c.remove_last.new.items ≡ length (take n cs) = c.remove_last.new.items.ok.0 ∙ ap length c.remove_last.ensures.items in
+    omega (arith, length-take n cs, h.codes.ok.0, h.codes_fit)
+
+pub invariant_of-self-clause-codes_valid : goal.invariant_of-self-clause-codes_valid
+invariant_of-self-clause-codes_valid c =
+    let h = c.args.self.now in
+    let cs = vec_items h.codes in
+    let n = length cs - 1 in
+    ap (isValid 0) c.remove_last.ensures.items ∙ valid-front 0 (take n cs) (drop n cs) (ap (isValid 0) (take-append-drop n cs) ∙ h.codes_valid)

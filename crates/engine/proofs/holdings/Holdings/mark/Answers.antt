@@ -5,22 +5,20 @@ use Rattle.engine.specs.Fitting.{allRowsFit}
 use Rattle.engine.proofs.Fitting.{rows-marked, set-mark}
 use Rattle.engine.proofs.holdings.Holdings.mark.Goals as goal
 
-pub invariant-of-self : goal.invariant-of-self
-invariant-of-self c =
+pub invariant_of-self-clause-rows_fit : goal.invariant_of-self-clause-rows_fit
+invariant_of-self-clause-rows_fit c =
     let h = c.args.self.now in
     let ts = vec_items h.terms in
     let within : c.args.i < length (vec_items h.rows) = omega arith in
-    let m = c.index-mut.result.now in
-    let fit : allRowsFit ts (set (vec_items h.rows) c.args.i (record { row = m.row; active = c.args.active })) ≡ true =
-    ap (allRowsFit ts) (set-mark c.args.i c.args.active (vec_items h.rows) m c.index-mut.ensures.value within) ∙ (rows-marked ts c.args.i c.args.active (vec_items h.rows) ∙ h.rows_fit) in
-    (h.term_room, (h.seat_room, (h.row_room, (h.code_room, (h.few_terms, (h.few_seats, (h.few_rows, (h.terms_fit, (h.seats_listed, (fit, (h.codes_fit, (h.codes_valid, tt))))))))))))
+    let m = c.index_mut.result.now in
+    ap (allRowsFit ts) (set-mark c.args.i c.args.active (vec_items h.rows) m c.index_mut.ensures.value within) ∙ (rows-marked ts c.args.i c.args.active (vec_items h.rows) ∙ h.rows_fit)
 
 pub returns : goal.returns
 returns c =
     let h = c.args.self.now in
-    let m = c.index-mut.result.now in
+    let m = c.index_mut.result.now in
     let within : c.args.i < length (vec_items h.rows) = omega arith in
     let s : set (vec_items h.rows) c.args.i (record { row = m.row; active = c.args.active }) ≡ marked c.args.i c.args.active (vec_items h.rows) =
-    set-mark c.args.i c.args.active (vec_items h.rows) m c.index-mut.ensures.value within in
-    let t = c.if-not-is-empty.ensures in
+    set-mark c.args.i c.args.active (vec_items h.rows) m c.index_mut.ensures.value within in
+    let t = c.if-not-is_empty.ensures in
     record { answers = grind (arith, nat_tests); leaves = grind (arith, nat_tests) }

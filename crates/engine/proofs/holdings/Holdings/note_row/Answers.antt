@@ -4,14 +4,17 @@ use Rattle.engine.specs.Refusals.{rowRefusal}
 use Rattle.engine.proofs.Fitting.{row-passes, rows-push}
 use Rattle.engine.proofs.holdings.Holdings.note_row.Goals as goal
 
-pub invariant-of-self-2 : goal.invariant-of-self-2
-invariant-of-self-2 c =
+pub invariant_of-self-2 : goal.invariant_of-self-2
+invariant_of-self-2 c =
     let h = c.args.self.now in
     let ts = vec_items h.terms in
     let taken : rowRefusal ts c.len.result c.args.row ≡ None =
-    sym (c.in-default.ensures ∙ ap (λ us. rowRefusal us c.len.result c.args.row) c.deref.ensures.value) in
+    sym (c.in_default.ensures ∙ ap (λ us. rowRefusal us c.len.result c.args.row) c.deref.ensures.value) in
     let passes = row-passes ts c.len.result c.args.row taken in
     let room = passes.room in
-    let fit : allRowsFit ts (vec_items c.push-reserved.new.self) ≡ true =
-    ap (allRowsFit ts) c.push-reserved.ensures.items ∙ rows-push ts (vec_items h.rows) (record { row = c.args.row; active = true }) h.rows_fit passes.fits in
-    (h.term_room, (h.seat_room, (omega arith, (h.code_room, (h.few_terms, (h.few_seats, (omega arith, (h.terms_fit, (h.seats_listed, (fit, (h.codes_fit, (h.codes_valid, tt))))))))))))
+    let fit : allRowsFit ts (vec_items c.push_reserved.new.self) ≡ true =
+    ap (allRowsFit ts) c.push_reserved.ensures.items ∙ rows-push ts (vec_items h.rows) (record { row = c.args.row; active = true }) h.rows_fit passes.fits in
+    record {
+      term_room = h.term_room; seat_room = h.seat_room; row_room = omega arith; code_room = h.code_room; few_terms = h.few_terms; few_seats = h.few_seats; few_rows = omega arith;
+      terms_fit = h.terms_fit; seats_listed = h.seats_listed; rows_fit = fit; codes_fit = h.codes_fit; codes_valid = h.codes_valid;
+    }

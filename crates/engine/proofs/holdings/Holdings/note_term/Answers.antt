@@ -6,28 +6,32 @@ use Rattle.engine.proofs.Fitting.{few-seats, term-passes, terms-push, rows-still
 use Rattle.engine.proofs.Seats.{seats-push}
 use Rattle.engine.proofs.holdings.Holdings.note_term.Goals as goal
 
-pub list-seat-requires : goal.list-seat-requires
-list-seat-requires c =
+pub list_seat-requires : goal.list_seat-requires
+list_seat-requires c =
     let h = c.args.self.now in
-    let free : termRefusal (vec_items h.terms) c.args.term ≡ None = sym (c.in-default.ensures ∙ ap (λ us. termRefusal us c.args.term) c.deref.ensures.value) in
+    let free : termRefusal (vec_items h.terms) c.args.term ≡ None = sym (c.in_default.ensures ∙ ap (λ us. termRefusal us c.args.term) c.deref.ensures.value) in
     let passes = term-passes (vec_items h.terms) c.args.term free in
     let listed : vec_len h.seats ≡ length (seatsOf (vec_items h.terms)) = h.seats.ok.0 ∙ ap length h.seats_listed in
     record { small = omega (arith, h.few_terms); room = λ d. let place = passes.seated d in omega (arith, h.seat_room) }
 
-pub invariant-of-self-2 : goal.invariant-of-self-2
-invariant-of-self-2 c =
+pub invariant_of-self-2 : goal.invariant_of-self-2
+invariant_of-self-2 c =
     let h = c.args.self.now in
     let ts = vec_items h.terms in
     let t = c.args.term in
-    let free : termRefusal ts t ≡ None = sym (c.in-default.ensures ∙ ap (λ us. termRefusal us t) c.deref.ensures.value) in
+    let free : termRefusal ts t ≡ None = sym (c.in_default.ensures ∙ ap (λ us. termRefusal us t) c.deref.ensures.value) in
     let room = (term-passes ts t free).room in
     let before : vec_len h.seats ≡ length (seatsOf ts) = h.seats.ok.0 ∙ ap length h.seats_listed in
     let counted : c.len.result ≡ length ts = c.len.ensures ∙ h.terms.ok.0 in
-    let terms : vec_items c.push-reserved.new.self ≡ ts ++ t ∷ [] = c.push-reserved.ensures.items in
-    let seats : vec_items c.list-seat.new.seats ≡ seatsOf (vec_items c.push-reserved.new.self) =
-    c.list-seat.ensures.items ∙ (λ i. h.seats_listed i ++ cond (isDated t.kind) (counted i ∷ []) []) ∙ sym (seats-push ts t) ∙ ap seatsOf (sym terms) in
-    let after : vec_len c.list-seat.new.seats ≡ length (seatsOf (ts ++ t ∷ [])) = c.list-seat.new.seats.ok.0 ∙ ap length (seats ∙ ap seatsOf terms) in
+    let terms : vec_items c.push_reserved.new.self ≡ ts ++ t ∷ [] = c.push_reserved.ensures.items in
+    let seats : vec_items c.list_seat.new.seats ≡ seatsOf (vec_items c.push_reserved.new.self) =
+    c.list_seat.ensures.items ∙ (λ i. h.seats_listed i ++ cond (isDated t.kind) (counted i ∷ []) []) ∙ sym (seats-push ts t) ∙ ap seatsOf (sym terms) in
+    let after : vec_len c.list_seat.new.seats ≡ length (seatsOf (ts ++ t ∷ [])) = c.list_seat.new.seats.ok.0 ∙ ap length (seats ∙ ap seatsOf terms) in
     let few = few-seats ts t free (omega (arith, h.few_seats)) in
-    let fit : allTermsFit (vec_items c.push-reserved.new.self) ≡ true = ap allTermsFit terms ∙ terms-push ts t h.terms_fit free in
-    let rows : allRowsFit (vec_items c.push-reserved.new.self) (vec_items h.rows) ≡ true = ap (λ us. allRowsFit us (vec_items h.rows)) terms ∙ rows-still ts t (vec_items h.rows) h.rows_fit in
-    (omega (arith, h.term_room), (omega (arith, h.seat_room), (h.row_room, (h.code_room, (omega (arith, h.few_terms), (omega arith, (h.few_rows, (fit, (seats, (rows, (omega (arith, h.codes_fit), (h.codes_valid, tt))))))))))))
+    let fit : allTermsFit (vec_items c.push_reserved.new.self) ≡ true = ap allTermsFit terms ∙ terms-push ts t h.terms_fit free in
+    let rows : allRowsFit (vec_items c.push_reserved.new.self) (vec_items h.rows) ≡ true = ap (λ us. allRowsFit us (vec_items h.rows)) terms ∙ rows-still ts t (vec_items h.rows) h.rows_fit in
+    record {
+      term_room = omega (arith, h.term_room); seat_room = omega (arith, h.seat_room); row_room = h.row_room; code_room = h.code_room;
+      few_terms = omega (arith, h.few_terms); few_seats = omega arith; few_rows = h.few_rows;
+      terms_fit = fit; seats_listed = seats; rows_fit = rows; codes_fit = omega (arith, h.codes_fit); codes_valid = h.codes_valid;
+    }

@@ -14,7 +14,7 @@ loop-byte-preserved g c plain =
     let l = c.args.self.now.0.now in
     let i = c.loop-byte.byte-index in
     let before = c.loop-byte.invariant plain in
-    let one = c.in-ok-write-char.ensures.writes before.plain refl in
+    let one = c.in_ok-write_char.ensures.writes before.plain refl in
     let text : textOfLabel (take i l) ++ encode (get_or l i 0) ≡ textOfLabel (take (i + 1) l) =
     flat_map_more encode [] (take i l) (get_or l i 0) ∙ ap textOfLabel (sym (take_more l i 0 c.loop-byte-test.true)) in
     has_written_of_eq took _ _ _ _ text (has_written_append took _ _ _ _ _ before one)

@@ -10,9 +10,9 @@ pub returns : goal.returns
 returns c =
     let h = c.args.self.now.held in
     let s = held h in
-    let r = c.settle-terms-settled.result.0 in
+    let r = c.settle_terms-settled.result.0 in
     let d : Decision s.terms (active s.rows) s.codes r =
-    subst (Decision s.terms (active s.rows) s.codes) (sym c.settle-terms-settled.ensures.settled) (decided s.terms s.rows s.codes (bounds h).terms h.rows_fit (bounds h).placed) in
+    subst (Decision s.terms (active s.rows) s.codes) (sym c.settle_terms-settled.ensures.settled) (decided s.terms s.rows s.codes (bounds h).terms h.rows_fit (bounds h).placed) in
     record {
       decision = d;
       sound = λ e. opened s (bounds h).placed h.codes_valid (d.solved e);

@@ -18,27 +18,27 @@ placed-ranks codes read array few same is =
     let whole : ranks (take 8 read) ≡ ranks codes = ap ranks (ap (take 8) same ∙ take_all 8 codes few) in
     (λ i. take (n i) (is i)) ∙ ap (λ rs. take (length codes) (rs ++ replicate (8 - length read) 0)) whole ∙ take_at (ranks codes) (replicate (8 - length read) 0) (length codes) (length-ranks codes)
 
-pub list-rows-requires : goal.list-rows-requires
-list-rows-requires c =
+pub list_rows-requires : goal.list_rows-requires
+list_rows-requires c =
     let h = c.args.self.now.held in
     let none : length (listed c.new-list.result) ≡ 0 = ap length c.new-list.ensures in
     let same : length (rowEdges (active c.rows.result.now)) ≡ length (rowEdges (active (held h).rows)) = ap (λ ms. length (rowEdges (active ms))) c.rows.ensures in
     omega (arith, few-rows (held h).rows, (bounds h).rows)
 
-pub list-order-requires : goal.list-order-requires
-list-order-requires c =
+pub list_order-requires : goal.list_order-requires
+list_order-requires c =
     let h = c.args.self.now.held in
     let b = bounds h in
     let few : length (held h).codes ≤ 8 = omega (arith, b.placed, b.seats) in
-    let cut = placed-ranks (held h).codes c.codes-codes.result.now c.rank-seats-ranks.result few c.codes-codes.ensures c.rank-seats-ranks.ensures in
+    let cut = placed-ranks (held h).codes c.codes-codes.result.now c.rank_seats-ranks.result few c.codes-codes.ensures c.rank_seats-ranks.ensures in
     let long = ap length cut ∙ length-ranks (held h).codes in
-    let rows : length (listed c.list-rows.new.list) ≡ length (listed c.new-list.result) + length (rowEdges (active c.rows.result.now)) = ap length c.list-rows.ensures ∙ length-append (listed c.new-list.result) (rowEdges (active c.rows.result.now)) in
+    let rows : length (listed c.list_rows.new.list) ≡ length (listed c.new-list.result) + length (rowEdges (active c.rows.result.now)) = ap length c.list_rows.ensures ∙ length-append (listed c.new-list.result) (rowEdges (active c.rows.result.now)) in
     let none : length (listed c.new-list.result) ≡ 0 = ap length c.new-list.ensures in
     let same : length (rowEdges (active c.rows.result.now)) ≡ length (rowEdges (active (held h).rows)) = ap (λ ms. length (rowEdges (active ms))) c.rows.ensures in
     let seats : length c.seats.result.now ≡ length (seatsOf (held h).terms) = ap length c.seats.ensures in
     record {
       ranked = omega (arith, b.placed);
-      room = omega (arith, few-rows (held h).rows, b.rows, few-pairs c.seats.result.now (take (length c.codes-codes.result.now - 0) c.rank-seats-ranks.result) (omega arith));
+      room = omega (arith, few-rows (held h).rows, b.rows, few-pairs c.seats.result.now (take (length c.codes-codes.result.now - 0) c.rank_seats-ranks.result) (omega arith));
     }
 
 pub returns : goal.returns
@@ -46,6 +46,6 @@ returns c =
     let h = c.args.self.now.held in
     let b = bounds h in
     let few : length (held h).codes ≤ 8 = omega (arith, b.placed, b.seats) in
-    let cut = placed-ranks (held h).codes c.codes-codes.result.now c.rank-seats-ranks.result few c.codes-codes.ensures c.rank-seats-ranks.ensures in
-    let rows : listed c.list-rows.new.list ≡ rowEdges (active (held h).rows) = c.list-rows.ensures ∙ (λ i. c.new-list.ensures i ++ rowEdges (active (c.rows.ensures i))) in
-    c.list-order.ensures ∙ (λ i. rows i ++ orderEdges (c.seats.ensures i) (cut i))
+    let cut = placed-ranks (held h).codes c.codes-codes.result.now c.rank_seats-ranks.result few c.codes-codes.ensures c.rank_seats-ranks.ensures in
+    let rows : listed c.list_rows.new.list ≡ rowEdges (active (held h).rows) = c.list_rows.ensures ∙ (λ i. c.new-list.ensures i ++ rowEdges (active (c.rows.ensures i))) in
+    c.list_order.ensures ∙ (λ i. rows i ++ orderEdges (c.seats.ensures i) (cut i))

@@ -18,13 +18,13 @@ settle-settled-requires c =
     let s = held h in
     let b = bounds h in
     let es = constraints s.terms (active s.rows) s.codes in
-    let is : c.as-slice.result.now ≡ es = c.as-slice.ensures ∙ c.list-constraints-list.ensures in
+    let is : c.as_slice.result.now ≡ es = c.as_slice.ensures ∙ c.list_constraints-list.ensures in
     let long = ap length is ∙ length-append (rowEdges (active s.rows)) (orderEdges (seatsOf s.terms) (ranks s.codes)) in
     let pairs = few-pairs (seatsOf s.terms) (ranks s.codes) (omega (arith, length-ranks s.codes, b.placed, b.seats)) in
     record {
       within = subst (Within 32) (sym is) (edges-within s.terms es b.terms (constraints-fit s.terms s.rows s.codes h.rows_fit));
       few = omega (arith, few-rows s.rows, b.rows);
-      short = omega (arith, c.count-rounds.ensures, b.seats);
+      short = omega (arith, c.count_rounds.ensures, b.seats);
       start = refl;
     }
 
@@ -33,8 +33,8 @@ returns c =
     let h = c.args.self.now.held in
     let s = held h in
     let es = constraints s.terms (active s.rows) s.codes in
-    let is : c.as-slice.result.now ≡ es = c.as-slice.ensures ∙ c.list-constraints-list.ensures in
-    let n : c.count-rounds.result ≡ length (seatsOf s.terms) = c.count-rounds.ensures in
+    let is : c.as_slice.result.now ≡ es = c.as_slice.ensures ∙ c.list_constraints-list.ensures in
+    let n : c.count_rounds.result ≡ length (seatsOf s.terms) = c.count_rounds.ensures in
     record {
       settled = c.settle-settled.ensures.told ∙ (λ i. isStable (is i) (after 32 (n i) (is i)));
       distances = c.settle-settled.ensures.made ∙ (λ i. after 32 (n i) (is i));

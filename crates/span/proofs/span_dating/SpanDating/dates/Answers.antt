@@ -24,21 +24,21 @@ returns-then-codes-seats c =
           elim c.then-codes-seats.either [
             | inl few ↦ omega arith
             | inr both ↦
-                let no-round = sym c.settle-terms-settled.ensures.settled ∙ both.1 in
+                let no-round = sym c.settle_terms-settled.ensures.settled ∙ both.1 in
                 let v = begun s k in
                 (decided s.terms s.rows s.codes (bounds h).terms h.rows_fit (bounds h).placed).unsolved no-round v.0 v.1
           ];
-      answered = c.in-layer.ensures;
+      answered = c.in_layer.ensures;
     }
 
-pub count-from-zero-requires : goal.count-from-zero-requires
-count-from-zero-requires c =
+pub count_from_zero-requires : goal.count_from_zero-requires
+count_from_zero-requires c =
     let h = c.args.self.now.held in
     let s = held h in
     let b = bounds h in
-    let d = c.settle-terms-settled.result.1 in
-    let is = c.settle-terms-settled.ensures.distances in
-    let stable = sym c.settle-terms-settled.ensures.settled ∙ c.if-not-settled.false in
+    let d = c.settle_terms-settled.result.1 in
+    let is = c.settle_terms-settled.ensures.distances in
+    let stable = sym c.settle_terms-settled.ensures.settled ∙ c.if-not-settled.false in
     let each = all-in-limits s.terms s.rows s.codes h.terms_fit h.rows_fit b.terms b.seats b.placed stable in
     let zero = zero-in-limits s.terms s.rows s.codes h.terms_fit h.rows_fit b.terms b.seats b.placed stable in
     record {
@@ -55,8 +55,8 @@ returns c =
     let b = bounds h in
     let ss = seatsOf s.terms in
     let es = constraints s.terms (active s.rows) s.codes in
-    let is = c.settle-terms-settled.ensures.distances in
-    let stable = sym c.settle-terms-settled.ensures.settled ∙ c.if-not-settled.false in
+    let is = c.settle_terms-settled.ensures.distances in
+    let stable = sym c.settle_terms-settled.ensures.settled ∙ c.if-not-settled.false in
     let codes : length c.codes.result.now ≡ length s.codes = ap length c.codes.ensures in
     let seats : length c.seats.result.now ≡ length ss = ap length c.seats.ensures in
     let dates = fromZero (after 32 (length ss) es) ss in
@@ -65,7 +65,7 @@ returns c =
       placed = omega (arith, b.placed);
       allowed = opened s b.placed h.codes_valid (at (after 32 (length ss) es), fitting s.terms s.rows s.codes h.terms_fit h.rows_fit b.terms b.seats b.placed stable);
       dates = dates;
-      answered = c.count-from-zero.ensures ∙ (λ i. fromZero (is i) (c.seats-2.ensures i) ++ replicate (8 - length (c.seats-2.ensures i)) (pos 0)) ∙ ap (λ n. dates ++ replicate (8 - n) (pos 0)) (sym each);
+      answered = c.count_from_zero.ensures ∙ (λ i. fromZero (is i) (c.seats-2.ensures i) ++ replicate (8 - length (c.seats-2.ensures i)) (pos 0)) ∙ ap (λ n. dates ++ replicate (8 - n) (pos 0)) (sym each);
       right = right s.terms s.rows s.codes h.terms_fit h.rows_fit b.terms b.seats b.placed stable;
       picked = picked s.terms s.rows s.codes h.terms_fit h.rows_fit b.terms b.seats b.placed stable;
     }
