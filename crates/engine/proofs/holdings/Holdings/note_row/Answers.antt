@@ -15,6 +15,16 @@ invariant_of-self-2 c =
     let fit : allRowsFit ts (vec_items c.push_reserved.new.self) ≡ true =
     ap (allRowsFit ts) c.push_reserved.ensures.items ∙ rows-push ts (vec_items h.rows) (record { row = c.args.row; active = true }) h.rows_fit passes.fits in
     record {
-      term_room = h.term_room; seat_room = h.seat_room; row_room = omega arith; code_room = h.code_room; few_terms = h.few_terms; few_seats = h.few_seats; few_rows = omega arith;
-      terms_fit = h.terms_fit; seats_listed = h.seats_listed; rows_fit = fit; codes_fit = h.codes_fit; codes_valid = h.codes_valid;
+      term_room = h.term_room;
+      seat_room = h.seat_room;
+      row_room = omega arith;
+      code_room = h.code_room;
+      few_terms = h.few_terms;
+      few_seats = h.few_seats;
+      few_rows = omega arith;
+      terms_fit = h.terms_fit;
+      seats_listed = h.seats_listed;
+      rows_fit = fit;
+      codes_fit = h.codes_fit;
+      codes_valid = h.codes_valid;
     }

@@ -31,7 +31,16 @@ invariant_of-self-2 c =
     let fit : allTermsFit (vec_items c.push_reserved.new.self) ≡ true = ap allTermsFit terms ∙ terms-push ts t h.terms_fit free in
     let rows : allRowsFit (vec_items c.push_reserved.new.self) (vec_items h.rows) ≡ true = ap (λ us. allRowsFit us (vec_items h.rows)) terms ∙ rows-still ts t (vec_items h.rows) h.rows_fit in
     record {
-      term_room = omega (arith, h.term_room); seat_room = omega (arith, h.seat_room); row_room = h.row_room; code_room = h.code_room;
-      few_terms = omega (arith, h.few_terms); few_seats = omega arith; few_rows = h.few_rows;
-      terms_fit = fit; seats_listed = seats; rows_fit = rows; codes_fit = omega (arith, h.codes_fit); codes_valid = h.codes_valid;
+      term_room = omega (arith, h.term_room);
+      seat_room = omega (arith, h.seat_room);
+      row_room = h.row_room;
+      code_room = h.code_room;
+      few_terms = omega (arith, h.few_terms);
+      few_seats = omega arith;
+      few_rows = h.few_rows;
+      terms_fit = fit;
+      seats_listed = seats;
+      rows_fit = rows;
+      codes_fit = omega (arith, h.codes_fit);
+      codes_valid = h.codes_valid;
     }
