@@ -8,3 +8,4 @@ mod RankArrays
 pub mod Ranks
 pub mod Seats
 pub mod Using
+pub mod Laws

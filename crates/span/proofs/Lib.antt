@@ -1,1 +1,7 @@
+mod Parts
+mod Pairs
+mod Solutions
+mod Limits
+mod Opening
+mod Dates
 mod Settling

@@ -3,9 +3,3 @@ pub mod Dating
 pub mod Decisions
 pub mod Letter
 pub mod Lists
-pub mod Dates
-pub mod Limits
-pub mod Pairs
-pub mod Parts
-pub mod Solutions
-pub mod Opening

@@ -4,7 +4,7 @@ ghost use Rattle.engine.specs.Dates.{GreatestDates};
 ghost use Rattle.graph.specs.Graph.{at};
 ghost use Rattle.span.specs.Dating.{InLimits, countsSpans, fromZero};
 ghost use Rattle.std.specs.List.{AllByRecursion as All};
-ghost use Rattle.span.specs.Dates;
+ghost use Rattle.engine.proofs.Laws.{same_greatest_dates};
 
 use crate::span::Span;
 use engine::dating::Dating;
@@ -42,7 +42,7 @@ impl Dating for Span {
 
     ghost picks = { λ _ ts rows codes dates. GreatestDates ts rows codes dates };
 
-    ghost once = { λ n ts rows codes a b x y. Dates.once ts rows codes a b x y };
+    ghost once = { λ n ts rows codes a b x y. same_greatest_dates ts rows codes a b x y };
 
     fn dates(&self) -> Result<[i64; 8], Fault> {
         let (settled, distances) = self.settle_terms();

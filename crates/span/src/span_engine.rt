@@ -3,7 +3,7 @@ ghost use Rattle.std.specs.Prelude.{ℕ, List};
 ghost use Rattle.engine.specs.Holding.{held};
 ghost use Rattle.engine.specs.Rules.{SpanAllowed};
 ghost use Rattle.span.specs.Letter.{spanLetter};
-ghost use Rattle.span.specs.Opening;
+ghost use Rattle.engine.proofs.Laws.{span_rule_without};
 
 use crate::span::Span;
 use engine::engine::Engine;
@@ -23,7 +23,7 @@ impl Engine for Span {
 
     ghost rule = { λ _ ts rows codes. SpanAllowed ts rows codes };
 
-    ghost fewer = { λ n ts front back r codes a. Opening.fewer ts front back r codes a };
+    ghost fewer = { λ n ts front back r codes a. span_rule_without ts front back r codes a };
 
     fn letter_of() -> char {
         Self::LETTER

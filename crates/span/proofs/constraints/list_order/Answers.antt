@@ -2,7 +2,7 @@ use Rattle.std.proofs.Common.{◌≡◌, ℕ, ◌+◌, ◌-◌, ◌<◌, ◌≤�
 use Rattle.std.proofs.lemmas.List.{length-drop, take_rest}
 use Rattle.span.specs.Constraints.{edgesWith, orderEdges}
 use Rattle.span.specs.Lists.{listed}
-use Rattle.span.specs.Parts.{listed_more, part-fits, all_listed, order-more, order-end}
+use Rattle.span.proofs.Parts.{listed_more, part-fits, all_listed, order-more, order-end}
 use Rattle.span.proofs.constraints.list_order.Goals as goal
 
 -- the slices of the seats after one, as lists

@@ -2,7 +2,7 @@ use Rattle.std.proofs.Common.{◌+◌, [], ◌∷◌, ◌++◌, length, pos, sym
 use Rattle.std.proofs.lemmas.List.{append_assoc}
 use Rattle.span.specs.Constraints.{edge}
 use Rattle.span.specs.Lists.{listed}
-use Rattle.span.specs.Parts.{pair-equal}
+use Rattle.span.proofs.Parts.{pair-equal}
 use Rattle.span.proofs.constraints.list_pair.Goals as goal
 
 pub push-requires-else-q-r-2 : goal.push-requires-else-q-r-2

@@ -1,7 +1,7 @@
 use Rattle.std.proofs.Common.{◌+◌, ◌≤◌, ◌++◌, length, get_or, drop, arith, length-append}
 use Rattle.span.specs.Constraints.{pairEdges, edgesWith}
 use Rattle.span.specs.Lists.{listed}
-use Rattle.span.specs.Parts.{listed_more, part-fits, all_listed, pairs-more, pairs_end}
+use Rattle.span.proofs.Parts.{listed_more, part-fits, all_listed, pairs-more, pairs_end}
 use Rattle.span.proofs.constraints.list_pairs.Goals as goal
 
 pub list_pair-requires : goal.list_pair-requires

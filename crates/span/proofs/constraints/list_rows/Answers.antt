@@ -4,7 +4,7 @@ use Rattle.engine.specs.declared.noted.Noted.{Noted}
 use Rattle.engine.specs.States.{active}
 use Rattle.span.specs.Constraints.{rowEdges}
 use Rattle.span.specs.Lists.{listed}
-use Rattle.span.specs.Parts.{listed_more, part-fits, all_listed, rows_more, rows_end}
+use Rattle.span.proofs.Parts.{listed_more, part-fits, all_listed, rows_more, rows_end}
 use Rattle.span.proofs.constraints.list_rows.Goals as goal
 
 abbrev unread : Noted

@@ -2,7 +2,7 @@ use Rattle.std.proofs.Common.{◌≡◌, ◌+◌, ◌-◌, ◌++◌, length, get
 use Rattle.std.proofs.ByRecursion.{All-get_or}
 use Rattle.std.proofs.lemmas.List.{take_all}
 use Rattle.span.specs.Dating.{InLimits, fromZero}
-use Rattle.span.specs.Dates.{date-next, stored}
+use Rattle.span.proofs.Dates.{date-next, stored}
 use Rattle.span.proofs.span_dating.count_from_zero.Goals as goal
 
 pub date_of-requires : goal.date_of-requires

@@ -3,7 +3,7 @@ use Rattle.engine.specs.Holding.{held}
 use Rattle.engine.specs.States.{active}
 use Rattle.engine.proofs.Bounds.{bounds}
 use Rattle.span.specs.Decisions.{Decision}
-use Rattle.span.specs.Opening.{begun, decided, opened, solved-complete}
+use Rattle.span.proofs.Opening.{begun, decided, opened, solved-complete}
 use Rattle.span.proofs.span.Span.is_consistent.Goals as goal
 
 pub returns : goal.returns

@@ -8,7 +8,7 @@ use Rattle.engine.proofs.Bounds.{bounds}
 use Rattle.engine.proofs.Ranks.{length-ranks}
 use Rattle.span.specs.Constraints.{orderEdges, rowEdges}
 use Rattle.span.specs.Lists.{listed}
-use Rattle.span.specs.Parts.{few-pairs, few-rows}
+use Rattle.span.proofs.Parts.{few-pairs, few-rows}
 use Rattle.span.proofs.span.Span.list_constraints.Goals as goal
 
 -- the array of ranks, cut to the seats that are placed

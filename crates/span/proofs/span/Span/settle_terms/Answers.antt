@@ -8,8 +8,8 @@ use Rattle.engine.specs.Terms.{seatsOf}
 use Rattle.engine.proofs.Bounds.{bounds}
 use Rattle.engine.proofs.Ranks.{length-ranks}
 use Rattle.span.specs.Constraints.{constraints, orderEdges, rowEdges}
-use Rattle.span.specs.Limits.{constraints-fit, edges-within}
-use Rattle.span.specs.Parts.{few-pairs, few-rows}
+use Rattle.span.proofs.Limits.{constraints-fit, edges-within}
+use Rattle.span.proofs.Parts.{few-pairs, few-rows}
 use Rattle.span.proofs.span.Span.settle_terms.Goals as goal
 
 pub settle-settled-requires : goal.settle-settled-requires

@@ -9,8 +9,8 @@ use Rattle.engine.specs.Terms.{seatsOf}
 use Rattle.engine.proofs.Bounds.{bounds}
 use Rattle.span.specs.Constraints.{constraints}
 use Rattle.span.specs.Dating.{InLimits, fromZero}
-use Rattle.span.specs.Dates.{all-in-limits, fitting, picked, right, zero-in-limits}
-use Rattle.span.specs.Opening.{begun, decided, opened}
+use Rattle.span.proofs.Dates.{all-in-limits, fitting, picked, right, zero-in-limits}
+use Rattle.span.proofs.Opening.{begun, decided, opened}
 use Rattle.span.proofs.span_dating.SpanDating.dates.Goals as goal
 
 pub returns-then-codes-seats : goal.returns-then-codes-seats

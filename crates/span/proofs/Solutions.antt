@@ -15,7 +15,7 @@ use Rattle.engine.specs.Rules.{SpanFits, SpanHolds}
 use Rattle.engine.specs.Terms.{seatsOf}
 use Rattle.engine.proofs.Ranks.{length-ranks}
 use Rattle.span.specs.Constraints.{constraints, orderEdges, rowEdges}
-use Rattle.span.specs.Pairs.{all_back, all-front, all-order, order-at, order-pair, pair-order}
+use Rattle.span.proofs.Pairs.{all_back, all-front, all-order, order-at, order-pair, pair-order}
 
 rows-solved : (v : Numbers) (rows : List Row) → All (SpanHolds v) rows → All (EdgeHolds v) (rowEdges rows)
 rows-solved v [] h = tt

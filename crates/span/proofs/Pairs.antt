@@ -9,7 +9,7 @@ use Rattle.graph.specs.declared.Edge.{Edge}
 use Rattle.graph.specs.Graph.{EdgeHolds}
 use Rattle.engine.specs.Meaning.{Numbers}
 use Rattle.span.specs.Constraints.{edge, pairEdges, edgesWith, orderEdges}
-use Rattle.span.specs.Parts.{pair-equal}
+use Rattle.span.proofs.Parts.{pair-equal}
 
 pub all-front : {X : Type 0} (P : X → Type 0) (xs ys : List X) → All P (xs ++ ys) → All P xs
 all-front P [] ys a = tt

@@ -27,45 +27,13 @@ use Rattle.engine.proofs.Ranks.{length-ranks}
 use Rattle.engine.proofs.Seats.{seat-of-zero, seats-within}
 use Rattle.span.specs.Constraints.{constraints, orderEdges, rowEdges}
 use Rattle.span.specs.Dating.{InLimits, countsSpans, fromZero}
-use Rattle.span.specs.Limits.{EdgeFits, constraints-fit, edges-among, edges-heavier, edges-within}
-use Rattle.span.specs.Pairs.{all-front}
-use Rattle.span.specs.Solutions.{fits-solve, solutions-fit}
+use Rattle.span.proofs.Limits.{EdgeFits, constraints-fit, edges-among, edges-heavier, edges-within}
+use Rattle.span.proofs.Pairs.{all-front}
+use Rattle.span.proofs.Solutions.{fits-solve, solutions-fit}
 
 all_both : {X : Type 0} (P Q R : X → Type 0) → ((x : X) → P x → Q x → R x) → (xs : List X) → All P xs → All Q xs → All R xs
 all_both P Q R f [] a b = tt
 all_both P Q R f (x ∷ xs) a b = (f x a.0 b.0, all_both P Q R f xs a.1 b.1)
-
--- lists of one length that agree at each place are equal
-same_lists : (xs ys : List ℤ) → length xs ≡ length ys → ((p : ℕ) → p < length xs → slice_index_or xs p (pos 0) ≡ slice_index_or ys p (pos 0)) → xs ≡ ys
-same_lists [] [] l e = refl
-same_lists [] (y ∷ ys) l e = absurd (omega arith)
-same_lists (x ∷ xs) [] l e = absurd (omega arith)
-same_lists (x ∷ xs) (y ∷ ys) l e =
-    let first : x ≡ y = e 0 (omega arith) in
-    let rest : xs ≡ ys = same_lists xs ys (omega arith) (λ p i. e (suc p) (omega arith)) in
-    λ k. first k ∷ rest k
-
--- a greatest number is not above another
-not-above : (ts : List Term) (rows : List Row) (codes : List ℕ) (g h : ℕ → ℤ) → Greatest ts rows codes g → Greatest ts rows codes h → (p : ℕ) → p < length (seatsOf ts) → g p ≤ℤ h p
-not-above ts rows codes g h a b p l =
-    let r = a.reached p l in
-    let e : seatNumbers ts r.0 p ≡ g p = r.3 in
-    let m : seatNumbers ts r.0 p ≤ℤ h p = b.greatest r.0 r.1 r.2 p l in
-    omega (arith, ints)
-
-pub once : (ts : List Term) (rows : List Row) (codes : List ℕ) (a b : List ℤ) → GreatestDates ts rows codes a → GreatestDates ts rows codes b → a ≡ b
-once ts rows codes a b x y =
-    let l = x.each in
-    let m = y.each in
-    let same : (p : ℕ) → p < length (seatsOf ts) → x.numbers p ≡ y.numbers p =
-    λ p i.
-    let u : x.numbers p ≤ℤ y.numbers p = not-above ts rows codes x.numbers y.numbers x.greatest y.greatest p i in
-    let w : y.numbers p ≤ℤ x.numbers p = not-above ts rows codes y.numbers x.numbers y.greatest x.greatest p i in
-    omega (arith, ints) in
-    same_lists a b (omega arith) (λ p i.
-    let j : p < length (seatsOf ts) = omega arith in
-    let z : 0 < length (seatsOf ts) = omega arith in
-    x.from_zero p j ∙ (λ k. same p j k -ℤ same 0 z k) ∙ sym (y.from_zero p j))
 
 -- The array of dates, seat by seat
 pub stored : (d : List ℤ) (s : ℕ) (r : ℤ) → InLimits d s → InLimits d 0 → r ≡ at d s -ℤ at d 0 → to_z w64 (of_z w64 r) ≡ at d s -ℤ at d 0

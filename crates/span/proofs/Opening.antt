@@ -16,8 +16,8 @@ use Rattle.engine.specs.Terms.{seatsOf}
 use Rattle.engine.proofs.Following.{front-extended, in-order-front}
 use Rattle.span.specs.Constraints.{constraints}
 use Rattle.span.specs.Decisions.{Decision, settles}
-use Rattle.span.specs.Limits.{constraints-fit, edges-among, edges-within}
-use Rattle.span.specs.Solutions.{fits-solve, solutions-fit}
+use Rattle.span.proofs.Limits.{constraints-fit, edges-among, edges-within}
+use Rattle.span.proofs.Solutions.{fits-solve, solutions-fit}
 
 pub decided : (ts : List Term) (ms : List Noted) (codes : List ℕ) → length ts ≤ 32 → allRowsFit ts ms ≡ true → length codes ≤ length (seatsOf ts) → Decision ts (active ms) codes (settles ts (active ms) codes)
 decided ts ms codes few fit placed =
@@ -49,11 +49,3 @@ begun s k =
 
 pub solved-complete : (ts : List Term) (rows : List Row) (codes : List ℕ) (r : Bool) → Decision ts rows codes r → SpanAllowed ts rows codes → r ≡ true
 solved-complete ts rows codes r d (v, f) = elim (cases_Bool r) [ inl e ↦ e | inr e ↦ absurd (d.unsolved e v f) ]
-
-all_without : {X : Type 0} (P : X → Type 0) (front back : List X) (x : X) → All P (front ++ x ∷ back) → All P (front ++ back)
-all_without P [] back x a = a.1
-all_without P (y ∷ front) back x a = (a.0, all_without P front back x a.1)
-
--- what is allowed stays allowed when a row is left out
-pub fewer : (ts : List Term) (front back : List Row) (r : Row) (codes : List ℕ) → SpanAllowed ts (front ++ r ∷ back) codes → SpanAllowed ts (front ++ back) codes
-fewer ts front back r codes (v, f) = (v, record { hold = all_without (SpanHolds v) front back r f.hold; ordered = f.ordered })

@@ -19,7 +19,7 @@ use Rattle.engine.specs.States.{active}
 use Rattle.engine.specs.Terms.{isDatedAt, seatsOf}
 use Rattle.engine.proofs.Seats.{seats-have, seats-within}
 use Rattle.span.specs.Constraints.{constraints, edge, orderEdges, pairEdges, rowEdges}
-use Rattle.span.specs.Pairs.{all-order}
+use Rattle.span.proofs.Pairs.{all-order}
 
 -- both ends are seats, and the weight is a bound
 abbrev pub EdgeFits : List ℕ → Edge → Type 0

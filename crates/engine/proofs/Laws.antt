@@ -1,0 +1,50 @@
+-- Laws of the rules and of the dates, which engines answer to their interfaces.
+use Rattle.std.specs.Prelude.{◌≡◌, ℕ, zero, suc, ◌<◌, List, [], ◌∷◌, ◌++◌, length, ℤ, pos, ◌-ℤ◌, ◌≤ℤ◌, slice_index_or, refl}
+use Rattle.std.proofs.Common.{sym, ◌∙◌, arith}
+use Rattle.std.specs.List.{AllByRecursion as All}
+use Rattle.std.proofs.lemmas.Int.{ints}
+use Rattle.sheet.specs.declared.row.Row.{Row}
+use Rattle.sheet.specs.declared.term.Term.{Term}
+use Rattle.engine.specs.Dates.{Greatest, GreatestDates}
+use Rattle.engine.specs.Rules.{SpanAllowed, SpanHolds, seatNumbers}
+use Rattle.engine.specs.Terms.{seatsOf}
+
+all_without : {X : Type 0} (P : X → Type 0) (front back : List X) (x : X) → All P (front ++ x ∷ back) → All P (front ++ back)
+all_without P [] back x a = a.1
+all_without P (y ∷ front) back x a = (a.0, all_without P front back x a.1)
+
+-- what is allowed stays allowed when a row is left out
+pub span_rule_without : (ts : List Term) (front back : List Row) (r : Row) (codes : List ℕ) → SpanAllowed ts (front ++ r ∷ back) codes → SpanAllowed ts (front ++ back) codes
+span_rule_without ts front back r codes (v, f) = (v, record { hold = all_without (SpanHolds v) front back r f.hold; ordered = f.ordered })
+
+-- lists of one length that agree at each place are equal
+same_lists : (xs ys : List ℤ) → length xs ≡ length ys → ((p : ℕ) → p < length xs → slice_index_or xs p (pos 0) ≡ slice_index_or ys p (pos 0)) → xs ≡ ys
+same_lists [] [] l e = refl
+same_lists [] (y ∷ ys) l e = absurd (omega arith)
+same_lists (x ∷ xs) [] l e = absurd (omega arith)
+same_lists (x ∷ xs) (y ∷ ys) l e =
+    let first : x ≡ y = e 0 (omega arith) in
+    let rest : xs ≡ ys = same_lists xs ys (omega arith) (λ p i. e (suc p) (omega arith)) in
+    λ k. first k ∷ rest k
+
+-- a greatest number is not above another
+not-above : (ts : List Term) (rows : List Row) (codes : List ℕ) (g h : ℕ → ℤ) → Greatest ts rows codes g → Greatest ts rows codes h → (p : ℕ) → p < length (seatsOf ts) → g p ≤ℤ h p
+not-above ts rows codes g h a b p l =
+    let r = a.reached p l in
+    let e : seatNumbers ts r.0 p ≡ g p = r.3 in
+    let m : seatNumbers ts r.0 p ≤ℤ h p = b.greatest r.0 r.1 r.2 p l in
+    omega (arith, ints)
+
+pub same_greatest_dates : (ts : List Term) (rows : List Row) (codes : List ℕ) (a b : List ℤ) → GreatestDates ts rows codes a → GreatestDates ts rows codes b → a ≡ b
+same_greatest_dates ts rows codes a b x y =
+    let l = x.each in
+    let m = y.each in
+    let same : (p : ℕ) → p < length (seatsOf ts) → x.numbers p ≡ y.numbers p =
+    λ p i.
+    let u : x.numbers p ≤ℤ y.numbers p = not-above ts rows codes x.numbers y.numbers x.greatest y.greatest p i in
+    let w : y.numbers p ≤ℤ x.numbers p = not-above ts rows codes y.numbers x.numbers y.greatest x.greatest p i in
+    omega (arith, ints) in
+    same_lists a b (omega arith) (λ p i.
+    let j : p < length (seatsOf ts) = omega arith in
+    let z : 0 < length (seatsOf ts) = omega arith in
+    x.from_zero p j ∙ (λ k. same p j k -ℤ same 0 z k) ∙ sym (y.from_zero p j))
