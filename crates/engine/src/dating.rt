@@ -20,7 +20,7 @@ pub trait Dating: Engine {
     fn dates(&self) -> Result<[i64; 8], Fault>
         ensures { MatchResult result
             (λ d. Dated (Self.rule (Self.setting self.now)) (Self.state self.now) counts (picks (Self.setting self.now)) d)
-            (λ e. Undated (Self.rule (Self.setting self.now)) (Self.state self.now) Self.letter e) };
+            (λ e. Undated (Self.rule (Self.setting self.now)) (Self.state self.now) Self.LETTER e) };
 
     // there is only one choice of them
     ghost once: { (n : ℕ) (ts : List Term) (rows : List Row) (codes : List ℕ) (a b : List ℤ) → picks n ts rows codes a → picks n ts rows codes b → a ≡ b };

@@ -13,11 +13,10 @@ use sheet::term::Term;
 // An engine holds terms, rows and codes, and tells whether its rule allows an arrangement that begins with the codes.
 // A call that refuses changes nothing, and its fault shows the engine's letter.
 pub trait Engine {
-    // The engine's letter.
+    // The engine's letter. It is a constant of the implementation, and clauses know it by the same name.
     const LETTER: char;
 
-    // the same for clauses, which cannot name the constant
-    ghost letter: { ℕ };
+    ghost LETTER: { ℕ };
 
     // what the engine holds
     ghost state: { Self → State };
@@ -28,10 +27,6 @@ pub trait Engine {
     // which arrangements are allowed, by the setting, the terms, the active rows and the codes alone
     ghost rule: { ℕ → List Term → List Row → List ℕ → Type 0 };
 
-    // The engine's letter, for generic code that has to know it in its contract.
-    fn letter_of() -> char
-        ensures { result ≡ letter };
-
     // Makes the engine new: it holds zero, no row and no code. It may be called at any time.
     fn renew(&mut self)
         ensures leaves { state self.new ≡ newState }
@@ -39,43 +34,43 @@ pub trait Engine {
 
     // Adds a term at the end.
     fn note_term(&mut self, term: Term) -> Result<(), Fault>
-        ensures answers { result ≡ answer_in letter (onNoteTerm (state self.old) term).refusal }
+        ensures answers { result ≡ answer_in LETTER (onNoteTerm (state self.old) term).refusal }
         ensures leaves { state self.new ≡ (onNoteTerm (state self.old) term).next }
         ensures keeps { setting self.new ≡ setting self.old };
 
     // Adds a row at the end, active.
     fn note_row(&mut self, row: Row) -> Result<(), Fault>
-        ensures answers { result ≡ answer_in letter (onNoteRow (state self.old) row).refusal }
+        ensures answers { result ≡ answer_in LETTER (onNoteRow (state self.old) row).refusal }
         ensures leaves { state self.new ≡ (onNoteRow (state self.old) row).next }
         ensures keeps { setting self.new ≡ setting self.old };
 
     // Removes the last row.
     fn strike(&mut self) -> Result<(), Fault>
-        ensures answers { result ≡ answer_in letter (onStrike (state self.old)).refusal }
+        ensures answers { result ≡ answer_in LETTER (onStrike (state self.old)).refusal }
         ensures leaves { state self.new ≡ (onStrike (state self.old)).next }
         ensures keeps { setting self.new ≡ setting self.old };
 
     // Makes row i count no more. It may be muted already.
     fn mute(&mut self, i: u8) -> Result<(), Fault>
-        ensures answers { result ≡ answer_in letter (onMark (state self.old) i false).refusal }
+        ensures answers { result ≡ answer_in LETTER (onMark (state self.old) i false).refusal }
         ensures leaves { state self.new ≡ (onMark (state self.old) i false).next }
         ensures keeps { setting self.new ≡ setting self.old };
 
     // Makes row i count again. It may be active already.
     fn unmute(&mut self, i: u8) -> Result<(), Fault>
-        ensures answers { result ≡ answer_in letter (onMark (state self.old) i true).refusal }
+        ensures answers { result ≡ answer_in LETTER (onMark (state self.old) i true).refusal }
         ensures leaves { state self.new ≡ (onMark (state self.old) i true).next }
         ensures keeps { setting self.new ≡ setting self.old };
 
     // Places the next seat by a code.
     fn place(&mut self, code: u8) -> Result<(), Fault>
-        ensures answers { result ≡ answer_in letter (onPlace (state self.old) code).refusal }
+        ensures answers { result ≡ answer_in LETTER (onPlace (state self.old) code).refusal }
         ensures leaves { state self.new ≡ (onPlace (state self.old) code).next }
         ensures keeps { setting self.new ≡ setting self.old };
 
     // Removes the last code.
     fn lift(&mut self) -> Result<(), Fault>
-        ensures answers { result ≡ answer_in letter (onLift (state self.old)).refusal }
+        ensures answers { result ≡ answer_in LETTER (onLift (state self.old)).refusal }
         ensures leaves { state self.new ≡ (onLift (state self.old)).next }
         ensures keeps { setting self.new ≡ setting self.old };
 

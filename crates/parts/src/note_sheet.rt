@@ -29,7 +29,7 @@ pub(crate) fn note_sheet<E: Engine>(
 ) -> Result<(), Refusal>
     requires bare { seats.old.items ≡ [] }
     requires room { 8 ≤ vec_capacity seats.old }
-    ensures notes { SheetNoted E.letter sheet.now (E.state engine.new) seats.new.items result }
+    ensures notes { SheetNoted E.LETTER sheet.now (E.state engine.new) seats.new.items result }
     ensures keeps { E.setting engine.new ≡ E.setting engine.old }
 {
     engine.renew();
@@ -73,7 +73,7 @@ fn refuse<E: Engine>(engine: &mut E, fault: Fault, place: usize) -> Result<(), R
 // Notes a field. `has_row` says whether a row was noted before: then no term may follow.
 fn note_field<E: Engine>(engine: &mut E, field: &Field<'_>, has_row: bool) -> Result<(), Fault>
     requires { has_row ≡ hasRow (E.state engine.old) }
-    ensures answers { result ≡ fieldAnswer E.letter (E.state engine.old) (value_of field.now) }
+    ensures answers { result ≡ fieldAnswer E.LETTER (E.state engine.old) (value_of field.now) }
     ensures leaves { E.state engine.new ≡ afterField (E.state engine.old) (value_of field.now) }
     ensures keeps { E.setting engine.new ≡ E.setting engine.old }
 {

@@ -24,9 +24,9 @@ pub(crate) fn report_sheet<E: Dating>(
     sheet: &[u8],
 ) -> Result<Report, AllocError>
     ensures keeps { E.setting engine.new ≡ E.setting engine.old }
-    ensures tells { IfOk result (λ p. Diagnosed (E.rule (E.setting engine.old)) E.counts (E.picks (E.setting engine.old)) E.letter sheet.now (E.state engine.new) p.diagnosis) }
+    ensures tells { IfOk result (λ p. Diagnosed (E.rule (E.setting engine.old)) E.counts (E.picks (E.setting engine.old)) E.LETTER sheet.now (E.state engine.new) p.diagnosis) }
     ensures lists { IfOk result (λ p. string_bytes p.text ≡ reportOf p.diagnosis) }
-    ensures only { IfOk result (λ p. OnlyReport (E.rule (E.setting engine.old)) E.counts (E.picks (E.setting engine.old)) E.letter sheet.now (string_bytes p.text)) }
+    ensures only { IfOk result (λ p. OnlyReport (E.rule (E.setting engine.old)) E.counts (E.picks (E.setting engine.old)) E.LETTER sheet.now (string_bytes p.text)) }
 {
     let seats = match Vec::with_capacity(heap, MAX_SEATS) {
         Ok(seats) => seats,

@@ -2,7 +2,6 @@
 ghost use Rattle.std.specs.Prelude.{ℕ, List};
 ghost use Rattle.engine.specs.Holding.{held};
 ghost use Rattle.engine.specs.Rules.{SpanAllowed};
-ghost use Rattle.span.specs.Letter.{spanLetter};
 ghost use Rattle.engine.proofs.Laws.{span_rule_without};
 
 use crate::span::Span;
@@ -15,7 +14,7 @@ use sheet::term::Term;
 impl Engine for Span {
     const LETTER: char = 'S';
 
-    ghost letter = { spanLetter };
+    ghost LETTER = { 83 };
 
     ghost state = { λ e. held e.held };
 
@@ -24,10 +23,6 @@ impl Engine for Span {
     ghost rule = { λ _ ts rows codes. SpanAllowed ts rows codes };
 
     ghost fewer = { λ n ts front back r codes a. span_rule_without ts front back r codes a };
-
-    fn letter_of() -> char {
-        Self::LETTER
-    }
 
     fn renew(&mut self) {
         self.held.renew();

@@ -8,7 +8,7 @@ pub place_first-requires : goal.place_first-requires
 place_first-requires g c =
     let f = g.E.Engine in
     let none : vec_len c.args.codes ≡ 0 = c.args.codes.ok.0 ∙ ap length c.requires.no_codes in
-    record { few = few-seats f.letter c.args.sheet.now (f.state c.note_sheet.new.engine) (vec_items c.note_sheet.new.seats) c.in-Ok.ensures.notes; room = omega (arith, c.requires.code_room) }
+    record { few = few-seats f.LETTER c.args.sheet.now (f.state c.note_sheet.new.engine) (vec_items c.note_sheet.new.seats) c.in-Ok.ensures.notes; room = omega (arith, c.requires.code_room) }
 
 pub returns-then-not-place_first : goal.returns-then-not-place_first
 returns-then-not-place_first g c =
@@ -20,7 +20,7 @@ returns-then-not-place_first g c =
     let n = f.setting c.args.engine.now in
     let p : FirstPlaced (f.rule n) s t held codes false = subst (λ m. FirstPlaced (f.rule m) s t held codes false) c.note_sheet.ensures.keeps c.if-not-place_first.ensures.places in
     record {
-      tells = unmet (f.rule n) s t held codes g.E.Dating.counts (g.E.Dating.picks n) f.letter c.args.sheet.now (vec_items c.note_sheet.new.seats) c.in-Ok.ensures.notes p;
+      tells = unmet (f.rule n) s t held codes g.E.Dating.counts (g.E.Dating.picks n) f.LETTER c.args.sheet.now (vec_items c.note_sheet.new.seats) c.in-Ok.ensures.notes p;
       keeps = c.place_first.ensures.keeps ∙ c.note_sheet.ensures.keeps;
     }
 
@@ -36,7 +36,7 @@ returns-in-Ok-dates g c =
     let p : FirstPlaced (f.rule n) s t held codes true = subst (λ m. FirstPlaced (f.rule m) s t held codes true) c.note_sheet.ensures.keeps c.if-not-place_first.ensures.places in
     let d : Dated (f.rule n) t g.E.Dating.counts (g.E.Dating.picks n) c.in-Ok-dates.dates = subst (λ m. Dated (f.rule m) t g.E.Dating.counts (g.E.Dating.picks m) c.in-Ok-dates.dates) same c.in-Ok-dates.ensures in
     record {
-      tells = met (f.rule n) s t held codes g.E.Dating.counts (g.E.Dating.picks n) f.letter c.args.sheet.now (vec_items c.note_sheet.new.seats) c.in-Ok.ensures.notes c.in-Ok-dates.dates c.requires.no_codes p d;
+      tells = met (f.rule n) s t held codes g.E.Dating.counts (g.E.Dating.picks n) f.LETTER c.args.sheet.now (vec_items c.note_sheet.new.seats) c.in-Ok.ensures.notes c.in-Ok-dates.dates c.requires.no_codes p d;
       keeps = same;
     }
 
@@ -49,5 +49,5 @@ returns-in-Err-dates g c =
     let held = vec_items c.args.codes in
     let codes = vec_items c.place_first.new.codes in
     let n = f.setting c.note_sheet.new.engine in
-    let u : Undated (f.rule n) t f.letter c.in-Err-dates.field-0 = subst (λ m. Undated (f.rule m) t f.letter c.in-Err-dates.field-0) c.place_first.ensures.keeps c.in-Err-dates.ensures in
-    absurd (dates-are (f.rule n) s t held codes f.letter c.in-Err-dates.field-0 c.if-not-place_first.ensures.places u)
+    let u : Undated (f.rule n) t f.LETTER c.in-Err-dates.field-0 = subst (λ m. Undated (f.rule m) t f.LETTER c.in-Err-dates.field-0) c.place_first.ensures.keeps c.in-Err-dates.ensures in
+    absurd (dates-are (f.rule n) s t held codes f.LETTER c.in-Err-dates.field-0 c.if-not-place_first.ensures.places u)

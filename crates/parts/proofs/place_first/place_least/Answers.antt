@@ -13,7 +13,7 @@ returns-in-Err g c =
     let code = c.loop-engine.code in
     let fault = c.in-Err.field-0 in
     record {
-      places = refused f c.args.engine.now x code c.loop-engine.invariant c.place.new.self fault.cause (refused-is f.letter (onPlace (f.state x) code).refusal fault c.in-Err.ensures.answers) c.place.ensures.leaves;
+      places = refused f c.args.engine.now x code c.loop-engine.invariant c.place.new.self fault.cause (refused-is f.LETTER (onPlace (f.state x) code).refusal fault c.in-Err.ensures.answers) c.place.ensures.leaves;
       keeps = c.place.ensures.keeps ∙ c.loop-engine.invariant.kept;
     }
 
@@ -22,7 +22,7 @@ returns-then-open g c =
     let f = g.E.Engine in
     let x = c.loop-engine.engine in
     let code = c.loop-engine.code in
-    let ok : (onPlace (f.state x) code).refusal ≡ None = accepted-is f.letter (onPlace (f.state x) code).refusal tt c.in-Ok.ensures.answers in
+    let ok : (onPlace (f.state x) code).refusal ≡ None = accepted-is f.LETTER (onPlace (f.state x) code).refusal tt c.in-Ok.ensures.answers in
     record {
       places = found f c.args.engine.now x code c.loop-engine.invariant c.place.new.self ok c.place.ensures.leaves c.place.ensures.keeps (c.open.ensures.sound c.if-open.true);
       keeps = c.place.ensures.keeps ∙ c.loop-engine.invariant.kept;
@@ -34,7 +34,7 @@ overflow_add-code g c =
     let a = c.args.engine.now in
     let x = c.loop-engine.engine in
     let code = c.loop-engine.code in
-    let ok : (onPlace (f.state x) code).refusal ≡ None = accepted-is f.letter (onPlace (f.state x) code).refusal tt c.in-Ok.ensures.answers in
+    let ok : (onPlace (f.state x) code).refusal ≡ None = accepted-is f.LETTER (onPlace (f.state x) code).refusal tt c.in-Ok.ensures.answers in
     let w = room f a x code c.loop-engine.invariant c.place.new.self ok c.place.ensures.leaves c.place.ensures.keeps in
     let few = c.requires in
     let less = blocks-le (f.state a).codes in
@@ -46,5 +46,5 @@ loop-engine-preserved g c =
     let f = g.E.Engine in
     let x = c.loop-engine.engine in
     let code = c.loop-engine.code in
-    let ok : (onPlace (f.state x) code).refusal ≡ None = accepted-is f.letter (onPlace (f.state x) code).refusal tt c.in-Ok.ensures.answers in
+    let ok : (onPlace (f.state x) code).refusal ≡ None = accepted-is f.LETTER (onPlace (f.state x) code).refusal tt c.in-Ok.ensures.answers in
     next f c.args.engine.now x code c.loop-engine.invariant c.place.new.self ok c.place.ensures.leaves c.place.ensures.keeps c.lift.new.self (λ k. both_ways c.open.result c.if-open.false (c.open.ensures.complete k)) c.lift.ensures.leaves c.lift.ensures.keeps

@@ -7,7 +7,7 @@ pub write_lines-requires : goal.write_lines-requires
 write_lines-requires g c =
     let f = g.E.Engine in
     let n = f.setting c.args.engine.now in
-    listable (f.rule n) g.E.Dating.counts (g.E.Dating.picks n) f.letter c.args.sheet.now (f.state c.diagnose-diagnosis.new.engine) c.diagnose-diagnosis.result c.diagnose-diagnosis.ensures.tells
+    listable (f.rule n) g.E.Dating.counts (g.E.Dating.picks n) f.LETTER c.args.sheet.now (f.state c.diagnose-diagnosis.new.engine) c.diagnose-diagnosis.result c.diagnose-diagnosis.ensures.tells
 
 pub returns-in-Ok-write_lines : goal.returns-in-Ok-write_lines
 returns-in-Ok-write_lines g c =
@@ -19,5 +19,5 @@ returns-in-Ok-write_lines g c =
       keeps = c.diagnose-diagnosis.ensures.keeps;
       tells = told;
       lists = text;
-      only = λ t d said. report-once (f.rule n) g.E.Dating.counts (g.E.Dating.picks n) f.letter c.args.sheet.now (g.met.E.Dating.once n) t (f.state c.diagnose-diagnosis.new.engine) d c.diagnose-diagnosis.result said told ∙ sym text;
+      only = λ t d said. report-once (f.rule n) g.E.Dating.counts (g.E.Dating.picks n) f.LETTER c.args.sheet.now (g.met.E.Dating.once n) t (f.state c.diagnose-diagnosis.new.engine) d c.diagnose-diagnosis.result said told ∙ sym text;
     }
