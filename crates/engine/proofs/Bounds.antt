@@ -2,17 +2,17 @@
 use Rattle.std.proofs.Common.{◌≡◌, ◌≤◌, length, vec_items, vec_len, ap, ◌∙◌, arith}
 use Rattle.engine.specs.declared.holdings.Holdings.{Holdings}
 use Rattle.engine.specs.Holding.{held}
-use Rattle.engine.specs.Terms.{seatsOf}
+use Rattle.engine.specs.Terms.{seats_of}
 
 pub record Bounds (h : Holdings) : Type 0 where
   pub terms : length (held h).terms ≤ 32
-  pub seats : length (seatsOf (held h).terms) ≤ 8
+  pub seats : length (seats_of (held h).terms) ≤ 8
   pub rows : length (held h).rows ≤ 64
-  pub placed : length (held h).codes ≤ length (seatsOf (held h).terms)
+  pub placed : length (held h).codes ≤ length (seats_of (held h).terms)
 
 pub bounds : (h : Holdings) → Bounds h
 bounds h =
-    let seats : vec_len h.seats ≡ length (seatsOf (vec_items h.terms)) = h.seats.ok.0 ∙ ap length h.seats_listed in
+    let seats : vec_len h.seats ≡ length (seats_of (vec_items h.terms)) = h.seats.ok.0 ∙ ap length h.seats_listed in
     let codes : vec_len h.codes ≡ length (vec_items h.codes) = h.codes.ok.0 in
     record {
       terms = omega (arith, h.terms.ok.0, h.few_terms);

@@ -3,27 +3,27 @@ use Rattle.std.proofs.Common.{◌≡◌, ℕ, ◌+◌, ◌<◌, ◌≤◌, Bool,
 use Rattle.std.proofs.lemmas.List.{at_drop_more, at_drop_all}
 use Rattle.sheet.specs.declared.term.Form.{Form}
 use Rattle.sheet.specs.declared.term.Term.{Term}
-use Rattle.engine.specs.Terms.{isDated, datedFrom, seatsOf, atOdds, anyAtOdds}
-use Rattle.engine.proofs.Seats.{dated-count}
+use Rattle.engine.specs.Terms.{is_dated, dated_from, seats_of, at_odds, any_at_odds}
+use Rattle.engine.proofs.Seats.{dated_count}
 
-abbrev pub seatCount : List Term → ℕ
-seatCount ts = length (seatsOf ts)
+abbrev pub seat_count : List Term → ℕ
+seat_count ts = length (seats_of ts)
 
-count-more : (t : Term) (ts : List Term) (b : Bool) → b ≡ isDated t.kind → seatCount (t ∷ ts) ≡ cond b 1 0 + seatCount ts
-count-more t ts b e = ap (λ v. length (cond v (0 ∷ datedFrom 1 ts) (datedFrom 1 ts))) (sym e) ∙ go b
+count_more : (t : Term) (ts : List Term) (b : Bool) → b ≡ is_dated t.kind → seat_count (t ∷ ts) ≡ cond b 1 0 + seat_count ts
+count_more t ts b e = ap (λ v. length (cond v (0 ∷ dated_from 1 ts) (dated_from 1 ts))) (sym e) ∙ go b
   where
-    go : (v : Bool) → length (cond v (0 ∷ datedFrom 1 ts) (datedFrom 1 ts)) ≡ cond v 1 0 + seatCount ts
-    go true = omega (arith, dated-count 1 0 ts)
-    go false = omega (arith, dated-count 1 0 ts)
+    go : (v : Bool) → length (cond v (0 ∷ dated_from 1 ts) (dated_from 1 ts)) ≡ cond v 1 0 + seat_count ts
+    go true = omega (arith, dated_count 1 0 ts)
+    go false = omega (arith, dated_count 1 0 ts)
 
-pub seats-more : (d : Term) (ts : List Term) (i : ℕ) (b : Bool) → i < length ts → b ≡ isDated (get_or ts i d).kind → seatCount (drop i ts) ≡ cond b 1 0 + seatCount (drop (i + 1) ts)
-seats-more d ts i b h e = at_drop_more seatCount ts i d h ∙ count-more (get_or ts i d) (drop (i + 1) ts) b e
+pub seats_more : (d : Term) (ts : List Term) (i : ℕ) (b : Bool) → i < length ts → b ≡ is_dated (get_or ts i d).kind → seat_count (drop i ts) ≡ cond b 1 0 + seat_count (drop (i + 1) ts)
+seats_more d ts i b h e = at_drop_more seat_count ts i d h ∙ count_more (get_or ts i d) (drop (i + 1) ts) b e
 
-pub seats-end : (ts : List Term) (i : ℕ) → length ts ≤ i → seatCount (drop i ts) ≡ 0
-seats-end ts i h = at_drop_all seatCount ts i h
+pub seats_end : (ts : List Term) (i : ℕ) → length ts ≤ i → seat_count (drop i ts) ≡ 0
+seats_end ts i h = at_drop_all seat_count ts i h
 
-pub odds-more : (d : Term) (f : Form) (ts : List Term) (i : ℕ) (b : Bool) → i < length ts → b ≡ atOdds f (get_or ts i d).form → anyAtOdds f (drop i ts) ≡ (b || anyAtOdds f (drop (i + 1) ts))
-odds-more d f ts i b h e = at_drop_more (anyAtOdds f) ts i d h ∙ ap (λ v. v || anyAtOdds f (drop (i + 1) ts)) (sym e)
+pub odds_more : (d : Term) (f : Form) (ts : List Term) (i : ℕ) (b : Bool) → i < length ts → b ≡ at_odds f (get_or ts i d).form → any_at_odds f (drop i ts) ≡ (b || any_at_odds f (drop (i + 1) ts))
+odds_more d f ts i b h e = at_drop_more (any_at_odds f) ts i d h ∙ ap (λ v. v || any_at_odds f (drop (i + 1) ts)) (sym e)
 
-pub odds-end : (f : Form) (ts : List Term) (i : ℕ) → length ts ≤ i → anyAtOdds f (drop i ts) ≡ false
-odds-end f ts i h = at_drop_all (anyAtOdds f) ts i h
+pub odds_end : (f : Form) (ts : List Term) (i : ℕ) → length ts ≤ i → any_at_odds f (drop i ts) ≡ false
+odds_end f ts i h = at_drop_all (any_at_odds f) ts i h

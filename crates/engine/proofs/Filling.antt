@@ -3,8 +3,8 @@ use Rattle.std.proofs.Common.{◌≡◌, ℕ, suc, ◌+◌, ◌-◌, ◌<◌, Li
 use Rattle.std.proofs.lemmas.List.{append_assoc, set_at}
 
 -- an element written at the first place that is free
-pub fill-next : {X : Type 0} (z : X) (xs : List X) (k : ℕ) (x : X) → length xs ≡ k → k < 8 → set (xs ++ replicate (8 - k) z) k x ≡ (xs ++ x ∷ []) ++ replicate (8 - (k + 1)) z
-fill-next z xs k x e l =
+pub fill_next : {X : Type 0} (z : X) (xs : List X) (k : ℕ) (x : X) → length xs ≡ k → k < 8 → set (xs ++ replicate (8 - k) z) k x ≡ (xs ++ x ∷ []) ++ replicate (8 - (k + 1)) z
+fill_next z xs k x e l =
     let left : 8 - k ≡ suc (8 - (k + 1)) = omega arith in
     ap (λ n. set (xs ++ replicate n z) k x) left
     ∙ set_at xs z (replicate (8 - (k + 1)) z) x k e

@@ -6,8 +6,8 @@ use Rattle.std.proofs.lemmas.Int.{ints}
 use Rattle.sheet.specs.declared.row.Row.{Row}
 use Rattle.sheet.specs.declared.term.Term.{Term}
 use Rattle.engine.specs.Dates.{Greatest, GreatestDates}
-use Rattle.engine.specs.Rules.{SpanAllowed, SpanHolds, seatNumbers}
-use Rattle.engine.specs.Terms.{seatsOf}
+use Rattle.engine.specs.Rules.{SpanAllowed, SpanHolds, seat_numbers}
+use Rattle.engine.specs.Terms.{seats_of}
 
 all_without : {X : Type 0} (P : X → Type 0) (front back : List X) (x : X) → All P (front ++ x ∷ back) → All P (front ++ back)
 all_without P [] back x a = a.1
@@ -28,23 +28,23 @@ same_lists (x ∷ xs) (y ∷ ys) l e =
     λ k. first k ∷ rest k
 
 -- a greatest number is not above another
-not-above : (ts : List Term) (rows : List Row) (codes : List ℕ) (g h : ℕ → ℤ) → Greatest ts rows codes g → Greatest ts rows codes h → (p : ℕ) → p < length (seatsOf ts) → g p ≤ℤ h p
-not-above ts rows codes g h a b p l =
+not_above : (ts : List Term) (rows : List Row) (codes : List ℕ) (g h : ℕ → ℤ) → Greatest ts rows codes g → Greatest ts rows codes h → (p : ℕ) → p < length (seats_of ts) → g p ≤ℤ h p
+not_above ts rows codes g h a b p l =
     let r = a.reached p l in
-    let e : seatNumbers ts r.0 p ≡ g p = r.3 in
-    let m : seatNumbers ts r.0 p ≤ℤ h p = b.greatest r.0 r.1 r.2 p l in
+    let e : seat_numbers ts r.0 p ≡ g p = r.3 in
+    let m : seat_numbers ts r.0 p ≤ℤ h p = b.greatest r.0 r.1 r.2 p l in
     omega (arith, ints)
 
 pub same_greatest_dates : (ts : List Term) (rows : List Row) (codes : List ℕ) (a b : List ℤ) → GreatestDates ts rows codes a → GreatestDates ts rows codes b → a ≡ b
 same_greatest_dates ts rows codes a b x y =
     let l = x.each in
     let m = y.each in
-    let same : (p : ℕ) → p < length (seatsOf ts) → x.numbers p ≡ y.numbers p =
+    let same : (p : ℕ) → p < length (seats_of ts) → x.numbers p ≡ y.numbers p =
     λ p i.
-    let u : x.numbers p ≤ℤ y.numbers p = not-above ts rows codes x.numbers y.numbers x.greatest y.greatest p i in
-    let w : y.numbers p ≤ℤ x.numbers p = not-above ts rows codes y.numbers x.numbers y.greatest x.greatest p i in
+    let u : x.numbers p ≤ℤ y.numbers p = not_above ts rows codes x.numbers y.numbers x.greatest y.greatest p i in
+    let w : y.numbers p ≤ℤ x.numbers p = not_above ts rows codes y.numbers x.numbers y.greatest x.greatest p i in
     omega (arith, ints) in
     same_lists a b (omega arith) (λ p i.
-    let j : p < length (seatsOf ts) = omega arith in
-    let z : 0 < length (seatsOf ts) = omega arith in
+    let j : p < length (seats_of ts) = omega arith in
+    let z : 0 < length (seats_of ts) = omega arith in
     x.from_zero p j ∙ (λ k. same p j k -ℤ same 0 z k) ∙ sym (y.from_zero p j))

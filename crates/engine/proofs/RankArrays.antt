@@ -6,53 +6,53 @@ use Rattle.std.specs.List.{AllByRecursion as All}
 use Rattle.std.proofs.ByRecursion.{All-map, All-push, All-weaker}
 use Rattle.std.proofs.lemmas.List.{append-nil, take_all, take_more, drop_all, take_at, drop_at, length-map, length-append, length-replicate, length-take-le}
 use Rattle.std.proofs.lemmas.Bool.{cases_lt, cond_both}
-use Rattle.engine.specs.Arrangements.{opensBlock, moved, ranksWith, ranks}
-use Rattle.engine.proofs.Filling.{fill-next}
-use Rattle.engine.proofs.Ranks.{with-opens, with-joins, length-ranks, ranks-append}
+use Rattle.engine.specs.Arrangements.{opens_block, moved, ranks_with, ranks}
+use Rattle.engine.proofs.Filling.{fill_next}
+use Rattle.engine.proofs.Ranks.{with_opens, with_joins, length_ranks, ranks_append}
 
 -- the first i elements mapped
 abbrev pub partly : (ℕ → ℕ) → ℕ → List ℕ → List ℕ
 partly f i xs = map f (take i xs) ++ drop i xs
 
-pub partly-item : (f : ℕ → ℕ) (i : ℕ) (xs : List ℕ) → i < length xs → get_or (partly f i xs) i 0 ≡ get_or xs i 0
-partly-item f i [] l = absurd (omega arith)
-partly-item f zero (x ∷ xs) l = refl
-partly-item f (suc i) (x ∷ xs) l = partly-item f i xs (omega arith)
+pub partly_item : (f : ℕ → ℕ) (i : ℕ) (xs : List ℕ) → i < length xs → get_or (partly f i xs) i 0 ≡ get_or xs i 0
+partly_item f i [] l = absurd (omega arith)
+partly_item f zero (x ∷ xs) l = refl
+partly_item f (suc i) (x ∷ xs) l = partly_item f i xs (omega arith)
 
-partly-set : (f : ℕ → ℕ) (i : ℕ) (xs : List ℕ) → i < length xs → set (partly f i xs) i (f (get_or xs i 0)) ≡ partly f (suc i) xs
-partly-set f i [] l = absurd (omega arith)
-partly-set f zero (x ∷ xs) l = refl
-partly-set f (suc i) (x ∷ xs) l = ap (λ ys. f x ∷ ys) (partly-set f i xs (omega arith))
+partly_set : (f : ℕ → ℕ) (i : ℕ) (xs : List ℕ) → i < length xs → set (partly f i xs) i (f (get_or xs i 0)) ≡ partly f (suc i) xs
+partly_set f i [] l = absurd (omega arith)
+partly_set f zero (x ∷ xs) l = refl
+partly_set f (suc i) (x ∷ xs) l = ap (λ ys. f x ∷ ys) (partly_set f i xs (omega arith))
 
 pub partly_more : (f : ℕ → ℕ) (i : ℕ) (xs ys : List ℕ) (y : ℕ) → i < length xs → ys ≡ partly f i xs → y ≡ f (get_or xs i 0) → set ys i y ≡ partly f (i + 1) xs
-partly_more f i xs ys y l e q = ap (λ zs. set zs i y) e ∙ ap (set (partly f i xs) i) q ∙ partly-set f i xs l ∙ ap (λ k. partly f k xs) (sym (add-one i))
+partly_more f i xs ys y l e q = ap (λ zs. set zs i y) e ∙ ap (set (partly f i xs) i) q ∙ partly_set f i xs l ∙ ap (λ k. partly f k xs) (sym (add-one i))
 
-pub partly-all : (f : ℕ → ℕ) (i : ℕ) (xs : List ℕ) → length xs ≤ i → partly f i xs ≡ map f xs
-partly-all f i xs l = ap (λ ys. map f ys ++ drop i xs) (take_all i xs l) ∙ ap (λ ys. map f xs ++ ys) (drop_all i xs l) ∙ append-nil (map f xs)
+pub partly_all : (f : ℕ → ℕ) (i : ℕ) (xs : List ℕ) → length xs ≤ i → partly f i xs ≡ map f xs
+partly_all f i xs l = ap (λ ys. map f ys ++ drop i xs) (take_all i xs l) ∙ ap (λ ys. map f xs ++ ys) (drop_all i xs l) ∙ append-nil (map f xs)
 
 -- no rank is above b
 abbrev pub Low : ℕ → List ℕ → Type 0
 Low b rs = All (λ r. r ≤ b) rs
 
-pub low-item : (b : ℕ) (rs : List ℕ) (i : ℕ) → Low b rs → get_or rs i 0 ≤ b
-low-item b [] i h = omega arith
-low-item b (r ∷ rs) zero h = h.0
-low-item b (r ∷ rs) (suc i) h = low-item b rs i h.1
+pub low_item : (b : ℕ) (rs : List ℕ) (i : ℕ) → Low b rs → get_or rs i 0 ≤ b
+low_item b [] i h = omega arith
+low_item b (r ∷ rs) zero h = h.0
+low_item b (r ∷ rs) (suc i) h = low_item b rs i h.1
 
-low-moved : (b k : ℕ) (rs : List ℕ) → Low b rs → Low (b + 1) (map (moved k) rs)
-low-moved b k rs h =
+low_moved : (b k : ℕ) (rs : List ℕ) → Low b rs → Low (b + 1) (map (moved k) rs)
+low_moved b k rs h =
     All-map (λ r. r ≤ b + 1) (moved k) rs
     (All-weaker (λ r. r ≤ b) (λ r. moved k r ≤ b + 1) (λ r l. cond_both (leb k r) (r + 1) r (λ x. x ≤ b + 1) (λ _. omega arith) (λ _. omega arith)) rs h)
 
-low-with : (b : ℕ) (rs : List ℕ) (c : ℕ) → Low b rs → c / 2 ≤ b + 1 → Low (b + 1) (ranksWith rs c)
-low-with b rs c h l =
-    All-push (λ r. r ≤ b + 1) (cond (opensBlock c) (map (moved (c / 2)) rs) rs) (c / 2)
-    (cond_both (opensBlock c) (map (moved (c / 2)) rs) rs (Low (b + 1)) (λ _. low-moved b (c / 2) rs h) (λ _. All-weaker (λ r. r ≤ b) (λ r. r ≤ b + 1) (λ r m. omega arith) rs h))
+low_with : (b : ℕ) (rs : List ℕ) (c : ℕ) → Low b rs → c / 2 ≤ b + 1 → Low (b + 1) (ranks_with rs c)
+low_with b rs c h l =
+    All-push (λ r. r ≤ b + 1) (cond (opens_block c) (map (moved (c / 2)) rs) rs) (c / 2)
+    (cond_both (opens_block c) (map (moved (c / 2)) rs) rs (Low (b + 1)) (λ _. low_moved b (c / 2) rs h) (λ _. All-weaker (λ r. r ≤ b) (λ r. r ≤ b + 1) (λ r m. omega arith) rs h))
     l
 
 -- one code more
-ranks-more : (cs : List ℕ) (k : ℕ) → k < length cs → ranks (take (k + 1) cs) ≡ ranksWith (ranks (take k cs)) (get_or cs k 0)
-ranks-more cs k l = ap ranks (take_more cs k 0 l) ∙ ranks-append [] (take k cs) (get_or cs k 0 ∷ [])
+ranks_more : (cs : List ℕ) (k : ℕ) → k < length cs → ranks (take (k + 1) cs) ≡ ranks_with (ranks (take k cs)) (get_or cs k 0)
+ranks_more cs k l = ap ranks (take_more cs k 0 l) ∙ ranks_append [] (take k cs) (get_or cs k 0 ∷ [])
 
 -- the array once k seats are ranked
 abbrev pub ranked : List ℕ → ℕ → List ℕ
@@ -60,41 +60,41 @@ ranked cs k = ranks (take k cs) ++ replicate (8 - k) 0
 
 module _ (cs : List ℕ) (k : ℕ) (l : k < length cs) (few : k < 8) where
   count : length (ranks (take k cs)) ≡ k
-  count = length-ranks (take k cs) ∙ length-take-le k cs (omega arith)
+  count = length_ranks (take k cs) ∙ length-take-le k cs (omega arith)
 
-  written : (ys : List ℕ) → length ys ≡ k → ys ++ (get_or cs k 0 / 2) ∷ [] ≡ ranksWith (ranks (take k cs)) (get_or cs k 0) → set (ys ++ replicate (8 - k) 0) k (get_or cs k 0 / 2) ≡ ranked cs (k + 1)
+  written : (ys : List ℕ) → length ys ≡ k → ys ++ (get_or cs k 0 / 2) ∷ [] ≡ ranks_with (ranks (take k cs)) (get_or cs k 0) → set (ys ++ replicate (8 - k) 0) k (get_or cs k 0 / 2) ≡ ranked cs (k + 1)
   written ys e q =
-      fill-next 0 ys k (get_or cs k 0 / 2) e few
-      ∙ ap (λ rs. rs ++ replicate (8 - (k + 1)) 0) (q ∙ sym (ranks-more cs k l))
+      fill_next 0 ys k (get_or cs k 0 / 2) e few
+      ∙ ap (λ rs. rs ++ replicate (8 - (k + 1)) 0) (q ∙ sym (ranks_more cs k l))
 
-  pub front-is : (xs : List ℕ) → xs ≡ ranked cs k → take (k - 0) xs ≡ ranks (take k cs)
-  front-is xs e = ap (λ n. take n xs) (sub-zero k) ∙ ap (take k) e ∙ take_at (ranks (take k cs)) (replicate (8 - k) 0) k count
+  pub front_is : (xs : List ℕ) → xs ≡ ranked cs k → take (k - 0) xs ≡ ranks (take k cs)
+  front_is xs e = ap (λ n. take n xs) (sub-zero k) ∙ ap (take k) e ∙ take_at (ranks (take k cs)) (replicate (8 - k) 0) k count
 
-  rest-is : (xs : List ℕ) → xs ≡ ranked cs k → post_of 0 (k - 0) xs ≡ replicate (8 - k) 0
-  rest-is xs e = ap (λ n. drop n xs) (sub-zero k) ∙ ap (drop k) e ∙ drop_at (ranks (take k cs)) (replicate (8 - k) 0) k count
+  rest_is : (xs : List ℕ) → xs ≡ ranked cs k → post_of 0 (k - 0) xs ≡ replicate (8 - k) 0
+  rest_is xs e = ap (λ n. drop n xs) (sub-zero k) ∙ ap (drop k) e ∙ drop_at (ranks (take k cs)) (replicate (8 - k) 0) k count
 
   -- a seat that opens a block, and one that joins a block
   pub opened : (xs ys zs : List ℕ) → xs ≡ ranked cs k → get_or cs k 0 % 2 ≡ 0 → ys ≡ map (moved (get_or cs k 0 / 2)) (take (k - 0) xs) → zs ≡ ys ++ post_of 0 (k - 0) xs → set zs k (get_or cs k 0 / 2) ≡ ranked cs (k + 1)
   opened xs ys zs e even y z =
       let f : ℕ → ℕ = moved (get_or cs k 0 / 2) in
       let rs : List ℕ = ranks (take k cs) in
-      let front : ys ≡ map f rs = y ∙ ap (map f) (front-is xs e) in
-      ap (λ us. set us k (get_or cs k 0 / 2)) (z ∙ ap (λ us. us ++ post_of 0 (k - 0) xs) front ∙ ap (λ us. map f rs ++ us) (rest-is xs e))
-      ∙ written (map f rs) (length-map rs f ∙ count) (sym (with-opens rs (get_or cs k 0) even))
+      let front : ys ≡ map f rs = y ∙ ap (map f) (front_is xs e) in
+      ap (λ us. set us k (get_or cs k 0 / 2)) (z ∙ ap (λ us. us ++ post_of 0 (k - 0) xs) front ∙ ap (λ us. map f rs ++ us) (rest_is xs e))
+      ∙ written (map f rs) (length-map rs f ∙ count) (sym (with_opens rs (get_or cs k 0) even))
 
   pub joined : (xs zs : List ℕ) → xs ≡ ranked cs k → (get_or cs k 0 % 2 ≡ 0 → ⊥) → zs ≡ xs → set zs k (get_or cs k 0 / 2) ≡ ranked cs (k + 1)
-  joined xs zs e odd z = ap (λ us. set us k (get_or cs k 0 / 2)) (z ∙ e) ∙ written (ranks (take k cs)) count (sym (with-joins (ranks (take k cs)) (get_or cs k 0) odd))
+  joined xs zs e odd z = ap (λ us. set us k (get_or cs k 0 / 2)) (z ∙ e) ∙ written (ranks (take k cs)) count (sym (with_joins (ranks (take k cs)) (get_or cs k 0) odd))
 
-  pub low-next : get_or cs k 0 < 256 → Low (127 + k) (ranks (take k cs)) → Low (127 + (k + 1)) (ranks (take (k + 1) cs))
-  low-next small h =
-      let next : Low (127 + k + 1) (ranksWith (ranks (take k cs)) (get_or cs k 0)) = low-with (127 + k) (ranks (take k cs)) (get_or cs k 0) h (omega arith) in
-      subst (Low (127 + (k + 1))) (sym (ranks-more cs k l)) (subst (λ n. Low n (ranksWith (ranks (take k cs)) (get_or cs k 0))) (add_assoc 127 k 1) next)
+  pub low_next : get_or cs k 0 < 256 → Low (127 + k) (ranks (take k cs)) → Low (127 + (k + 1)) (ranks (take (k + 1) cs))
+  low_next small h =
+      let next : Low (127 + k + 1) (ranks_with (ranks (take k cs)) (get_or cs k 0)) = low_with (127 + k) (ranks (take k cs)) (get_or cs k 0) h (omega arith) in
+      subst (Low (127 + (k + 1))) (sym (ranks_more cs k l)) (subst (λ n. Low n (ranks_with (ranks (take k cs)) (get_or cs k 0))) (add_assoc 127 k 1) next)
 
-pub length-ranked : (cs : List ℕ) (k : ℕ) → k ≤ length cs → k ≤ 8 → length (ranked cs k) ≡ 8
-length-ranked cs k l few = omega (arith, length-append (ranks (take k cs)) (replicate (8 - k) 0), length-ranks (take k cs), length-take-le k cs l, length-replicate {A = ℕ} (8 - k) 0)
+pub length_ranked : (cs : List ℕ) (k : ℕ) → k ≤ length cs → k ≤ 8 → length (ranked cs k) ≡ 8
+length_ranked cs k l few = omega (arith, length-append (ranks (take k cs)) (replicate (8 - k) 0), length_ranks (take k cs), length-take-le k cs l, length-replicate {A = ℕ} (8 - k) 0)
 
-pub all-ranked : (cs : List ℕ) (k : ℕ) → k ≡ min (length cs) 8 → ranked cs k ≡ ranks (take 8 cs) ++ replicate (8 - length cs) 0
-all-ranked cs k e =
+pub all_ranked : (cs : List ℕ) (k : ℕ) → k ≡ min (length cs) 8 → ranked cs k ≡ ranks (take 8 cs) ++ replicate (8 - length cs) 0
+all_ranked cs k e =
     elim (cases_lt (length cs) 8) [
       | inl l ↦
           let n : k ≡ length cs = omega arith in

@@ -6,52 +6,52 @@ use Rattle.sheet.specs.declared.fault.Cause.{Cause}
 use Rattle.sheet.specs.declared.fault.Cause.TheVariants.{CodeTooHigh, EverySeatPlaced, NoCodeToLift}
 use Rattle.sheet.specs.declared.fault.Fault.{Fault}
 use Rattle.engine.specs.Arrangements.{blocks}
-use Rattle.engine.specs.Calls.{onLift, onPlace, unlessRefused, withoutLast}
-use Rattle.engine.specs.Refusals.{answer_in, firstGround}
-use Rattle.engine.specs.States.{State, with_code, withCodes}
-use Rattle.engine.specs.Terms.{seatsOf}
-use Rattle.engine.proofs.Fitting.{none-holds}
+use Rattle.engine.specs.Calls.{on_lift, on_place, unless_refused, without_last}
+use Rattle.engine.specs.Refusals.{answer_in, first_ground}
+use Rattle.engine.specs.States.{State, with_code, with_codes}
+use Rattle.engine.specs.Terms.{seats_of}
+use Rattle.engine.proofs.Fitting.{none_holds}
 
 -- an answer tells whether the call was refused, and why
-pub accepted-is : (letter : ℕ) (o : Option Cause) (u : Unit {0}) → Ok u ≡ answer_in letter o → o ≡ None
-accepted-is letter None u e = refl
-accepted-is letter (Some c) u e = cc
+pub accepted_is : (letter : ℕ) (o : Option Cause) (u : Unit {0}) → Ok u ≡ answer_in letter o → o ≡ None
+accepted_is letter None u e = refl
+accepted_is letter (Some c) u e = cc
 
-pub refused-is : (letter : ℕ) (o : Option Cause) (f : Fault) → Err f ≡ answer_in letter o → o ≡ Some f.cause
-refused-is letter None f e = let z : ◌≡◌ {A = ℕ} 0 1 = cc in absurd (omega arith)
-refused-is letter (Some c) f e = let q : f ≡ record { cause = c; layer = letter } = cc in ap (λ (g : Fault). Some g.cause) (sym q)
+pub refused_is : (letter : ℕ) (o : Option Cause) (f : Fault) → Err f ≡ answer_in letter o → o ≡ Some f.cause
+refused_is letter None f e = let z : ◌≡◌ {A = ℕ} 0 1 = cc in absurd (omega arith)
+refused_is letter (Some c) f e = let q : f ≡ record { cause = c; layer = letter } = cc in ap (λ (g : Fault). Some g.cause) (sym q)
 
 -- place, accepted and refused
-pub placed : (s : State) (c : ℕ) → (onPlace s c).refusal ≡ None → (onPlace s c).next ≡ with_code s c
-placed s c e = ap (λ (o : Option Cause). unlessRefused o s (with_code s c)) e
+pub placed : (s : State) (c : ℕ) → (on_place s c).refusal ≡ None → (on_place s c).next ≡ with_code s c
+placed s c e = ap (λ (o : Option Cause). unless_refused o s (with_code s c)) e
 
-pub not-placed : (s : State) (c : ℕ) (x : Cause) → (onPlace s c).refusal ≡ Some x → (onPlace s c).next ≡ s
-not-placed s c x e = ap (λ (o : Option Cause). unlessRefused o s (with_code s c)) e
+pub not_placed : (s : State) (c : ℕ) (x : Cause) → (on_place s c).refusal ≡ Some x → (on_place s c).next ≡ s
+not_placed s c x e = ap (λ (o : Option Cause). unless_refused o s (with_code s c)) e
 
-without-last : {X : Type 0} (xs : List X) (x : X) → withoutLast (xs ++ x ∷ []) ≡ xs
-without-last xs x = take_at xs (x ∷ []) (length (xs ++ x ∷ []) - 1) (omega (arith, length_push xs x))
+without_last_push : {X : Type 0} (xs : List X) (x : X) → without_last (xs ++ x ∷ []) ≡ xs
+without_last_push xs x = take_at xs (x ∷ []) (length (xs ++ x ∷ []) - 1) (omega (arith, length_push xs x))
 
 -- lift takes back what place did
-pub lifted : (s : State) (c : ℕ) → (onLift (with_code s c)).next ≡ s
+pub lifted : (s : State) (c : ℕ) → (on_lift (with_code s c)).next ≡ s
 lifted s c =
     let cs : List ℕ = s.codes ++ c ∷ [] in
     let some : eqb (length cs) 0 ≡ false = ne_eqb (length cs) 0 (λ e. omega (arith, length_push s.codes c)) in
-    ap (λ b. unlessRefused (cond b (Some NoCodeToLift) None) (withCodes s cs) (withCodes s (withoutLast cs))) some
-    ∙ ap (withCodes s) (without-last s.codes c)
+    ap (λ b. unless_refused (cond b (Some NoCodeToLift) None) (with_codes s cs) (with_codes s (without_last cs))) some
+    ∙ ap (with_codes s) (without_last_push s.codes c)
 
-grounds-some : (a b : Bool) (x y z : Cause) → firstGround ((a, x) ∷ (b, y) ∷ []) ≡ Some z → a ≡ false → b ≡ true
-grounds-some true b x y z e h = cc
-grounds-some false true x y z e h = refl
-grounds-some false false x y z e h = cc
+grounds_some : (a b : Bool) (x y z : Cause) → first_ground ((a, x) ∷ (b, y) ∷ []) ≡ Some z → a ≡ false → b ≡ true
+grounds_some true b x y z e h = cc
+grounds_some false true x y z e h = refl
+grounds_some false false x y z e h = cc
 
 -- a code that is accepted, and one that is not although a seat is left
-pub fits : (s : State) (c : ℕ) → (onPlace s c).refusal ≡ None → (length s.codes < length (seatsOf s.terms)) × (c ≤ 2 * blocks s.codes)
+pub fits : (s : State) (c : ℕ) → (on_place s c).refusal ≡ None → (length s.codes < length (seats_of s.terms)) × (c ≤ 2 * blocks s.codes)
 fits s c e =
-    let g = none-holds (leb (length (seatsOf s.terms)) (length s.codes)) EverySeatPlaced ((ltb (2 * blocks s.codes) c, CodeTooHigh) ∷ []) e in
-    let h = none-holds (ltb (2 * blocks s.codes) c) CodeTooHigh [] g.1 in
-    (leb-false (length (seatsOf s.terms)) (length s.codes) g.0, ltb-false (2 * blocks s.codes) c h.0)
+    let g = none_holds (leb (length (seats_of s.terms)) (length s.codes)) EverySeatPlaced ((ltb (2 * blocks s.codes) c, CodeTooHigh) ∷ []) e in
+    let h = none_holds (ltb (2 * blocks s.codes) c) CodeTooHigh [] g.1 in
+    (leb-false (length (seats_of s.terms)) (length s.codes) g.0, ltb-false (2 * blocks s.codes) c h.0)
 
-pub fits_not : (s : State) (c : ℕ) (z : Cause) → (onPlace s c).refusal ≡ Some z → length s.codes < length (seatsOf s.terms) → 2 * blocks s.codes < c
+pub fits_not : (s : State) (c : ℕ) (z : Cause) → (on_place s c).refusal ≡ Some z → length s.codes < length (seats_of s.terms) → 2 * blocks s.codes < c
 fits_not s c z e l =
     ltb-true (2 * blocks s.codes) c
-    (grounds-some (leb (length (seatsOf s.terms)) (length s.codes)) (ltb (2 * blocks s.codes) c) EverySeatPlaced CodeTooHigh z e (lt-leb (length (seatsOf s.terms)) (length s.codes) l))
+    (grounds_some (leb (length (seats_of s.terms)) (length s.codes)) (ltb (2 * blocks s.codes) c) EverySeatPlaced CodeTooHigh z e (lt-leb (length (seats_of s.terms)) (length s.codes) l))

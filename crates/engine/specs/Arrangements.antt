@@ -3,39 +3,39 @@
 -- from 0, code 2k opens a block before block k (after all of them where k is b), and code 2k + 1 joins block k.
 use Rattle.std.specs.Prelude.{◌≡◌, ℕ, ◌+◌, ◌*◌, ◌/◌, ◌%◌, ◌<◌, ◌≤◌, Bool, true, cond, ◌&&◌, ◌⊎◌, List, [], ◌∷◌, ◌++◌, map, length, ℤ, ◌<ℤ◌, ◌==◌, nat_le, slice_index}
 
-abbrev pub opensBlock : ℕ → Bool
-opensBlock c = c % 2 == 0
+abbrev pub opens_block : ℕ → Bool
+opens_block c = c % 2 == 0
 
 -- how many blocks the codes open
 abbrev pub blocks : List ℕ → ℕ
 blocks [] = 0
-blocks (c ∷ cs) = cond (opensBlock c) 1 0 + blocks cs
+blocks (c ∷ cs) = cond (opens_block c) 1 0 + blocks cs
 
 -- with b blocks standing, each code is at most twice the blocks that stand when it comes
-abbrev pub isValid : ℕ → List ℕ → Bool
-isValid b [] = true
-isValid b (c ∷ cs) = nat_le c (2 * b) && isValid (b + cond (opensBlock c) 1 0) cs
+abbrev pub is_valid : ℕ → List ℕ → Bool
+is_valid b [] = true
+is_valid b (c ∷ cs) = nat_le c (2 * b) && is_valid (b + cond (opens_block c) 1 0) cs
 
 -- an arrangement of n seats
 pub record Arrangement (n : ℕ) (codes : List ℕ) : Type 0 where
   pub full : length codes ≡ n
-  pub valid : isValid 0 codes ≡ true
+  pub valid : is_valid 0 codes ≡ true
 
 -- the rank of a seat is its block, counted from 0: a block that is opened at k moves those from k on
 abbrev pub moved : ℕ → ℕ → ℕ
 moved k r = cond (nat_le k r) (r + 1) r
 
 -- the ranks once a seat more is placed by the code c
-abbrev pub ranksWith : List ℕ → ℕ → List ℕ
-ranksWith rs c = cond (opensBlock c) (map (moved (c / 2)) rs) rs ++ (c / 2) ∷ []
+abbrev pub ranks_with : List ℕ → ℕ → List ℕ
+ranks_with rs c = cond (opens_block c) (map (moved (c / 2)) rs) rs ++ (c / 2) ∷ []
 
-abbrev pub ranksFrom : List ℕ → List ℕ → List ℕ
-ranksFrom rs [] = rs
-ranksFrom rs (c ∷ cs) = ranksFrom (ranksWith rs c) cs
+abbrev pub ranks_from : List ℕ → List ℕ → List ℕ
+ranks_from rs [] = rs
+ranks_from rs (c ∷ cs) = ranks_from (ranks_with rs c) cs
 
 -- the rank of each seat that has a code
 abbrev pub ranks : List ℕ → List ℕ
-ranks codes = ranksFrom [] codes
+ranks codes = ranks_from [] codes
 
 -- the numbers x, one for each seat, follow the ranks rs: equal in a block, and smaller in an earlier block
 pub record InOrder (rs : List ℕ) (x : ℕ → ℤ) : Type 0 where
@@ -59,7 +59,7 @@ pub record Followed (n : ℕ) (x : ℕ → ℤ) : Type 0 where
   pub arrangement : Arrangement n codes
   pub followed : InOrder (ranks codes) x
   pub only : (ds : List ℕ) → Arrangement n ds → InOrder (ranks ds) x → ds ≡ codes
-  pub extends : (front : List ℕ) → length front ≤ n → isValid 0 front ≡ true → InOrder (ranks front) x → (rest : List ℕ) × (codes ≡ front ++ rest)
+  pub extends : (front : List ℕ) → length front ≤ n → is_valid 0 front ≡ true → InOrder (ranks front) x → (rest : List ℕ) × (codes ≡ front ++ rest)
 
 abbrev pub EveryChoiceIsFollowed : Type 0
 EveryChoiceIsFollowed = (n : ℕ) (x : ℕ → ℤ) → Followed n x

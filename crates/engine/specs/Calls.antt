@@ -5,10 +5,10 @@ use Rattle.sheet.specs.declared.fault.Cause.TheVariants.{EverySeatPlaced, CodeTo
 use Rattle.sheet.specs.declared.row.Row.{Row}
 use Rattle.sheet.specs.declared.term.Term.{Term}
 use Rattle.engine.specs.declared.noted.Noted.{Noted}
-use Rattle.engine.specs.Terms.{seatsOf}
-use Rattle.engine.specs.Refusals.{firstGround, termRefusal, rowRefusal, strikeRefusal}
+use Rattle.engine.specs.Terms.{seats_of}
+use Rattle.engine.specs.Refusals.{first_ground, term_refusal, row_refusal, strike_refusal}
 use Rattle.engine.specs.Arrangements.{blocks}
-use Rattle.engine.specs.States.{State, withTerms, withRows, with_code, withCodes}
+use Rattle.engine.specs.States.{State, with_terms, with_rows, with_code, with_codes}
 
 -- why a call is refused, if it is, and the state that follows
 pub record Outcome : Type 0 where
@@ -16,12 +16,12 @@ pub record Outcome : Type 0 where
   pub next : State
 
 -- a refusal leaves the state s, and otherwise the state t follows
-abbrev pub unlessRefused : Option Cause → State → State → State
-unlessRefused None s t = t
-unlessRefused (Some c) s t = s
+abbrev pub unless_refused : Option Cause → State → State → State
+unless_refused None s t = t
+unless_refused (Some c) s t = s
 
 abbrev pub attempt : State → Option Cause → State → Outcome
-attempt s o t = record { refusal = o; next = unlessRefused o s t }
+attempt s o t = record { refusal = o; next = unless_refused o s t }
 
 infixr 20 ◌or_else◌
 abbrev pub ◌or_else◌ : Option Cause → Option Cause → Option Cause
@@ -29,23 +29,23 @@ None or_else b = b
 (Some c) or_else b = Some c
 
 -- terms, rows and marks are not touched while codes are placed
-abbrev pub codesRefusal : State → Option Cause
-codesRefusal s = firstGround ((nat_lt 0 (length s.codes), CodesPlaced) ∷ [])
+abbrev pub codes_refusal : State → Option Cause
+codes_refusal s = first_ground ((nat_lt 0 (length s.codes), CodesPlaced) ∷ [])
 
-abbrev pub withoutLast : {X : Type 0} → List X → List X
-withoutLast xs = take (length xs - 1) xs
+abbrev pub without_last : {X : Type 0} → List X → List X
+without_last xs = take (length xs - 1) xs
 
 -- note term adds at the end
-abbrev pub onNoteTerm : State → Term → Outcome
-onNoteTerm s t = attempt s (termRefusal s.terms t or_else codesRefusal s) (withTerms s (s.terms ++ t ∷ []))
+abbrev pub on_note_term : State → Term → Outcome
+on_note_term s t = attempt s (term_refusal s.terms t or_else codes_refusal s) (with_terms s (s.terms ++ t ∷ []))
 
 -- note row adds at the end, and the new row is active
-abbrev pub onNoteRow : State → Row → Outcome
-onNoteRow s r = attempt s (rowRefusal s.terms (length s.rows) r or_else codesRefusal s) (withRows s (s.rows ++ record { row = r; active = true } ∷ []))
+abbrev pub on_note_row : State → Row → Outcome
+on_note_row s r = attempt s (row_refusal s.terms (length s.rows) r or_else codes_refusal s) (with_rows s (s.rows ++ record { row = r; active = true } ∷ []))
 
 -- strike removes the last row
-abbrev pub onStrike : State → Outcome
-onStrike s = attempt s (strikeRefusal (length s.rows) or_else codesRefusal s) (withRows s (withoutLast s.rows))
+abbrev pub on_strike : State → Outcome
+on_strike s = attempt s (strike_refusal (length s.rows) or_else codes_refusal s) (with_rows s (without_last s.rows))
 
 -- the rows with row i made active, or muted
 abbrev pub marked : ℕ → Bool → List Noted → List Noted
@@ -54,15 +54,15 @@ marked zero b (m ∷ ms) = record { row = m.row; active = b } ∷ ms
 marked (suc i) b (m ∷ ms) = m ∷ marked i b ms
 
 -- mute and unmute change the mark of one row, and may repeat
-abbrev pub onMark : State → ℕ → Bool → Outcome
-onMark s i b = attempt s (firstGround ((nat_le (length s.rows) i, NoSuchRow) ∷ []) or_else codesRefusal s) (withRows s (marked i b s.rows))
+abbrev pub on_mark : State → ℕ → Bool → Outcome
+on_mark s i b = attempt s (first_ground ((nat_le (length s.rows) i, NoSuchRow) ∷ []) or_else codes_refusal s) (with_rows s (marked i b s.rows))
 
 -- place adds a code
-abbrev pub onPlace : State → ℕ → Outcome
-onPlace s c = attempt s
-    (firstGround ((nat_le (length (seatsOf s.terms)) (length s.codes), EverySeatPlaced) ∷ (nat_lt (2 * blocks s.codes) c, CodeTooHigh) ∷ []))
+abbrev pub on_place : State → ℕ → Outcome
+on_place s c = attempt s
+    (first_ground ((nat_le (length (seats_of s.terms)) (length s.codes), EverySeatPlaced) ∷ (nat_lt (2 * blocks s.codes) c, CodeTooHigh) ∷ []))
     (with_code s c)
 
 -- lift removes the last code
-abbrev pub onLift : State → Outcome
-onLift s = attempt s (firstGround (((length s.codes == 0), NoCodeToLift) ∷ [])) (withCodes s (withoutLast s.codes))
+abbrev pub on_lift : State → Outcome
+on_lift s = attempt s (first_ground (((length s.codes == 0), NoCodeToLift) ∷ [])) (with_codes s (without_last s.codes))

@@ -5,29 +5,29 @@ use Rattle.sheet.specs.declared.fault.Cause.TheVariants.{NoDates}
 use Rattle.sheet.specs.declared.fault.Fault.{Fault}
 use Rattle.sheet.specs.declared.row.Row.{Row}
 use Rattle.sheet.specs.declared.term.Term.{Term}
-use Rattle.sheet.specs.Causes.{faultIn}
-use Rattle.engine.specs.Terms.{seatsOf}
-use Rattle.engine.specs.Rows.{RowKind, kind_of, onDated}
+use Rattle.sheet.specs.Causes.{fault_in}
+use Rattle.engine.specs.Terms.{seats_of}
+use Rattle.engine.specs.Rows.{RowKind, kind_of, on_dated}
 use Rattle.engine.specs.Meaning.{Numbers, Holds}
 use Rattle.engine.specs.Arrangements.{ranks, InOrder}
-use Rattle.engine.specs.Rules.{seatNumbers, SpanFits}
+use Rattle.engine.specs.Rules.{seat_numbers, SpanFits}
 use Rattle.engine.specs.States.{State, active, Completion}
 
 -- the number of term i is the date of its seat; 0 where it has none
-abbrev pub dateAt : List ℕ → List ℤ → Numbers
-dateAt [] dates i = pos 0
-dateAt (s ∷ ss) [] i = pos 0
-dateAt (s ∷ ss) (d ∷ dates) i = cond (s == i) d (dateAt ss dates i)
+abbrev pub date_at : List ℕ → List ℤ → Numbers
+date_at [] dates i = pos 0
+date_at (s ∷ ss) [] i = pos 0
+date_at (s ∷ ss) (d ∷ dates) i = cond (s == i) d (date_at ss dates i)
 
 -- the row holds of the dates, if it is of a kind that counts and stands on dated terms alone
 abbrev pub CountedHolds : (RowKind → Bool) → List Term → List ℤ → Row → Type 0
-CountedHolds counts ts dates r = (counts (kind_of r) && onDated ts r) ≡ true → Holds (dateAt (seatsOf ts) dates) r
+CountedHolds counts ts dates r = (counts (kind_of r) && on_dated ts r) ≡ true → Holds (date_at (seats_of ts) dates) r
 
 -- dates from −7,000,000 to 7,000,000, one a seat, in the order of the arrangement, zero's being 0, that make the counted rows true
 pub record RightDates (counts : RowKind → Bool) (s : State) (dates : List ℤ) : Type 0 where
-  pub each : length dates ≡ length (seatsOf s.terms)
+  pub each : length dates ≡ length (seats_of s.terms)
   pub within : (p : ℕ) → p < length dates → (negsuc 6999999 ≤ℤ slice_index_or dates p (pos 0)) × (slice_index_or dates p (pos 0) ≤ℤ pos 7000000)
-  pub zero-first : get_or dates 0 (pos 0) ≡ pos 0
+  pub zero_first : get_or dates 0 (pos 0) ≡ pos 0
   pub ordered : InOrder (ranks s.codes) (λ p. get_or dates p (pos 0))
   pub hold : All (CountedHolds counts s.terms dates) (active s.rows)
 
@@ -35,7 +35,7 @@ module _ (rule : List Term → List Row → List ℕ → Type 0) (s : State) whe
   -- every seat is placed and open says yes: the answer has the dates first, and 0 at each place that is left of 8.
   -- `picks` says which dates the engine gives
   pub record Dated (counts : RowKind → Bool) (picks : List Term → List Row → List ℕ → List ℤ → Type 0) (answer : List ℤ) : Type 0 where
-    pub placed : length s.codes ≡ length (seatsOf s.terms)
+    pub placed : length s.codes ≡ length (seats_of s.terms)
     pub allowed : Completion rule s
     pub dates : List ℤ
     pub answered : answer ≡ dates ++ replicate (8 - length dates) (pos 0)
@@ -44,17 +44,17 @@ module _ (rule : List Term → List Row → List ℕ → Type 0) (s : State) whe
 
   -- otherwise the call is refused
   pub record Undated (letter : ℕ) (fault : Fault) : Type 0 where
-    pub ground : length s.codes ≡ length (seatsOf s.terms) → Completion rule s → ⊥
-    pub answered : fault ≡ faultIn letter NoDates
+    pub ground : length s.codes ≡ length (seats_of s.terms) → Completion rule s → ⊥
+    pub answered : fault ≡ fault_in letter NoDates
 
 -- The dates of the span engine. Of all numbers that fit and are not above 0 at a seat, g has the greatest at each seat
 pub record Greatest (ts : List Term) (rows : List Row) (codes : List ℕ) (g : ℕ → ℤ) : Type 0 where
-  pub reached : (p : ℕ) → p < length (seatsOf ts) → (v : Numbers) × SpanFits ts rows codes v × ((q : ℕ) → q < length (seatsOf ts) → seatNumbers ts v q ≤ℤ pos 0) × (seatNumbers ts v p ≡ g p)
-  pub greatest : (v : Numbers) → SpanFits ts rows codes v → ((q : ℕ) → q < length (seatsOf ts) → seatNumbers ts v q ≤ℤ pos 0) → (p : ℕ) → p < length (seatsOf ts) → seatNumbers ts v p ≤ℤ g p
+  pub reached : (p : ℕ) → p < length (seats_of ts) → (v : Numbers) × SpanFits ts rows codes v × ((q : ℕ) → q < length (seats_of ts) → seat_numbers ts v q ≤ℤ pos 0) × (seat_numbers ts v p ≡ g p)
+  pub greatest : (v : Numbers) → SpanFits ts rows codes v → ((q : ℕ) → q < length (seats_of ts) → seat_numbers ts v q ≤ℤ pos 0) → (p : ℕ) → p < length (seats_of ts) → seat_numbers ts v p ≤ℤ g p
 
 -- and zero's is subtracted from all
 pub record GreatestDates (ts : List Term) (rows : List Row) (codes : List ℕ) (dates : List ℤ) : Type 0 where
   pub numbers : ℕ → ℤ
   pub greatest : Greatest ts rows codes numbers
-  pub each : length dates ≡ length (seatsOf ts)
-  pub from_zero : (p : ℕ) → p < length (seatsOf ts) → slice_index_or dates p (pos 0) ≡ numbers p -ℤ numbers 0
+  pub each : length dates ≡ length (seats_of ts)
+  pub from_zero : (p : ℕ) → p < length (seats_of ts) → slice_index_or dates p (pos 0) ≡ numbers p -ℤ numbers 0

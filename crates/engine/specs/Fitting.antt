@@ -6,36 +6,36 @@ use Rattle.sheet.specs.declared.term.Form.{Form}
 use Rattle.sheet.specs.declared.term.Form.TheVariants.{Name, One, Two}
 use Rattle.sheet.specs.declared.term.Term.{Term}
 use Rattle.engine.specs.declared.noted.Noted.{Noted}
-use Rattle.engine.specs.Terms.{isDated}
-use Rattle.engine.specs.Rows.{termsBelow, spansLevel, boundPastLimit}
-use Rattle.engine.specs.Refusals.{termRefusal}
+use Rattle.engine.specs.Terms.{is_dated}
+use Rattle.engine.specs.Rows.{terms_below, spans_level, bound_past_limit}
+use Rattle.engine.specs.Refusals.{term_refusal}
 
-abbrev pub isName : Form → Bool
-isName Name = true
-isName (One a x) = false
-isName (Two a x y) = false
+abbrev pub is_name : Form → Bool
+is_name Name = true
+is_name (One a x) = false
+is_name (Two a x y) = false
 
-abbrev pub isZeroTerm : Term → Bool
-isZeroTerm t = isDated t.kind && isName t.form
+abbrev pub is_zero_term : Term → Bool
+is_zero_term t = is_dated t.kind && is_name t.form
 
-abbrev pub isAccepted : Option Cause → Bool
-isAccepted None = true
-isAccepted (Some c) = false
+abbrev pub is_accepted : Option Cause → Bool
+is_accepted None = true
+is_accepted (Some c) = false
 
 -- each term is one that those before it can take
-abbrev pub termsFit : List Term → List Term → Bool
-termsFit before [] = true
-termsFit before (t ∷ ts) = isAccepted (termRefusal before t) && termsFit (before ++ t ∷ []) ts
+abbrev pub terms_fit : List Term → List Term → Bool
+terms_fit before [] = true
+terms_fit before (t ∷ ts) = is_accepted (term_refusal before t) && terms_fit (before ++ t ∷ []) ts
 
 -- zero stands first, and each later term was accepted when it came
-abbrev pub allTermsFit : List Term → Bool
-allTermsFit [] = false
-allTermsFit (t ∷ ts) = isZeroTerm t && termsFit (t ∷ []) ts
+abbrev pub all_terms_fit : List Term → Bool
+all_terms_fit [] = false
+all_terms_fit (t ∷ ts) = is_zero_term t && terms_fit (t ∷ []) ts
 
 -- the row names terms that are there, a span names dated ones, and its bound is within the limits
-abbrev pub rowFits : List Term → Row → Bool
-rowFits ts r = termsBelow (length ts) r && (not (spansLevel ts r) && not (boundPastLimit r))
+abbrev pub row_fits : List Term → Row → Bool
+row_fits ts r = terms_below (length ts) r && (not (spans_level ts r) && not (bound_past_limit r))
 
-abbrev pub allRowsFit : List Term → List Noted → Bool
-allRowsFit ts [] = true
-allRowsFit ts (m ∷ ms) = rowFits ts m.row && allRowsFit ts ms
+abbrev pub all_rows_fit : List Term → List Noted → Bool
+all_rows_fit ts [] = true
+all_rows_fit ts (m ∷ ms) = row_fits ts m.row && all_rows_fit ts ms

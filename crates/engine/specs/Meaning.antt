@@ -6,7 +6,7 @@ use Rattle.sheet.specs.declared.row.Row.TheVariants.{Span, Same, Unlike}
 use Rattle.sheet.specs.declared.term.Form.{Form}
 use Rattle.sheet.specs.declared.term.Form.TheVariants.{One, Two}
 use Rattle.sheet.specs.declared.term.Term.{Term}
-use Rattle.engine.specs.Terms.{zeroTerm}
+use Rattle.engine.specs.Terms.{zero_term}
 
 -- a whole number for each term, by the term's index
 abbrev pub Numbers : Type 0
@@ -18,14 +18,14 @@ pub record Tables : Type 0 where
   pub binary : ℕ → ℤ → ℤ → ℤ
 
 -- the form of term i; past the end, a name
-abbrev pub formAt : List Term → ℕ → Form
-formAt ts i = (slice_index_or ts i zeroTerm).form
+abbrev pub form_at : List Term → ℕ → Form
+form_at ts i = (slice_index_or ts i zero_term).form
 
 -- term 0 is zero, and an application is its table's answer at the numbers of its arguments
 pub record Interprets (m : Tables) (ts : List Term) (v : Numbers) : Type 0 where
   pub zeroth : v 0 ≡ pos 0
-  pub unary : (i a x : ℕ) → formAt ts i ≡ One a x → v i ≡ m.unary a (v x)
-  pub binary : (i a x y : ℕ) → formAt ts i ≡ Two a x y → v i ≡ m.binary a (v x) (v y)
+  pub unary : (i a x : ℕ) → form_at ts i ≡ One a x → v i ≡ m.unary a (v x)
+  pub binary : (i a x y : ℕ) → form_at ts i ≡ Two a x y → v i ≡ m.binary a (v x) (v y)
 
 -- the row is true
 abbrev pub Holds : Numbers → Row → Type 0

@@ -6,40 +6,40 @@ use Rattle.sheet.specs.declared.fault.Cause.TheVariants.{MalformedTerm, TermsFul
 use Rattle.sheet.specs.declared.fault.Fault.{Fault}
 use Rattle.sheet.specs.declared.row.Row.{Row}
 use Rattle.sheet.specs.declared.term.Term.{Term}
-use Rattle.sheet.specs.Causes.{faultIn}
-use Rattle.sheet.specs.Terms.{wellLettered}
-use Rattle.engine.specs.Terms.{isDated, seatsOf, argumentsBelow, anyAtOdds}
-use Rattle.engine.specs.Rows.{termsBelow, spansLevel, boundPastLimit}
+use Rattle.sheet.specs.Causes.{fault_in}
+use Rattle.sheet.specs.Terms.{well_lettered}
+use Rattle.engine.specs.Terms.{is_dated, seats_of, arguments_below, any_at_odds}
+use Rattle.engine.specs.Rows.{terms_below, spans_level, bound_past_limit}
 
 -- the cause of the first test that holds
-abbrev pub firstGround : List (Bool × Cause) → Option Cause
-firstGround [] = None
-firstGround (g ∷ gs) = cond g.0 (Some g.1) (firstGround gs)
+abbrev pub first_ground : List (Bool × Cause) → Option Cause
+first_ground [] = None
+first_ground (g ∷ gs) = cond g.0 (Some g.1) (first_ground gs)
 
 -- why the terms ts cannot take the term t: for declaring a term, and for noting one
-abbrev pub termRefusal : List Term → Term → Option Cause
-termRefusal ts t = firstGround (
-    (not (wellLettered t.form), MalformedTerm)
+abbrev pub term_refusal : List Term → Term → Option Cause
+term_refusal ts t = first_ground (
+    (not (well_lettered t.form), MalformedTerm)
     ∷ (nat_le 32 (length ts), TermsFull)
-    ∷ (isDated t.kind && nat_le 8 (length (seatsOf ts)), DatedTermsFull)
-    ∷ (not (argumentsBelow (length ts) t.form), ArgumentNotEarlier)
-    ∷ (anyAtOdds t.form ts, OtherArgumentCount)
+    ∷ (is_dated t.kind && nat_le 8 (length (seats_of ts)), DatedTermsFull)
+    ∷ (not (arguments_below (length ts) t.form), ArgumentNotEarlier)
+    ∷ (any_at_odds t.form ts, OtherArgumentCount)
     ∷ [])
 
 -- why a row cannot follow n rows over the terms ts: for entering a row, and for noting one
-abbrev pub rowRefusal : List Term → ℕ → Row → Option Cause
-rowRefusal ts n r = firstGround (
+abbrev pub row_refusal : List Term → ℕ → Row → Option Cause
+row_refusal ts n r = first_ground (
     (nat_le 64 n, RowsFull)
-    ∷ (not (termsBelow (length ts) r), NoSuchTerm)
-    ∷ (spansLevel ts r, SpanOnLevel)
-    ∷ (boundPastLimit r, BoundPastLimit)
+    ∷ (not (terms_below (length ts) r), NoSuchTerm)
+    ∷ (spans_level ts r, SpanOnLevel)
+    ∷ (bound_past_limit r, BoundPastLimit)
     ∷ [])
 
 -- why the last of n rows cannot be struck
-abbrev pub strikeRefusal : ℕ → Option Cause
-strikeRefusal n = firstGround (((n == 0), NoRowToStrike) ∷ [])
+abbrev pub strike_refusal : ℕ → Option Cause
+strike_refusal n = first_ground (((n == 0), NoRowToStrike) ∷ [])
 
 -- what a call answers, in the layer with this letter
 abbrev pub answer_in : ℕ → Option Cause → Result (Unit {0}) Fault
 answer_in letter None = Ok tt
-answer_in letter (Some c) = Err (faultIn letter c)
+answer_in letter (Some c) = Err (fault_in letter c)

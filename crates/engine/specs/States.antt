@@ -3,7 +3,7 @@ use Rattle.std.specs.Prelude.{ℕ, cond, List, [], ◌∷◌, ◌++◌, length}
 use Rattle.sheet.specs.declared.row.Row.{Row}
 use Rattle.sheet.specs.declared.term.Term.{Term}
 use Rattle.engine.specs.declared.noted.Noted.{Noted}
-use Rattle.engine.specs.Terms.{zeroTerm, seatsOf}
+use Rattle.engine.specs.Terms.{zero_term, seats_of}
 use Rattle.engine.specs.Arrangements.{Arrangement}
 
 -- the terms and rows noted, in order, and the codes placed
@@ -13,21 +13,21 @@ pub record State : Type 0 where
   pub codes : List ℕ
 
 -- a new engine holds zero, no row and no code
-abbrev pub newState : State
-newState = record { terms = zeroTerm ∷ []; rows = []; codes = [] }
+abbrev pub new_state : State
+new_state = record { terms = zero_term ∷ []; rows = []; codes = [] }
 
-abbrev pub withTerms : State → List Term → State
-withTerms s ts = record { terms = ts; rows = s.rows; codes = s.codes }
+abbrev pub with_terms : State → List Term → State
+with_terms s ts = record { terms = ts; rows = s.rows; codes = s.codes }
 
-abbrev pub withRows : State → List Noted → State
-withRows s rs = record { terms = s.terms; rows = rs; codes = s.codes }
+abbrev pub with_rows : State → List Noted → State
+with_rows s rs = record { terms = s.terms; rows = rs; codes = s.codes }
 
-abbrev pub withCodes : State → List ℕ → State
-withCodes s cs = record { terms = s.terms; rows = s.rows; codes = cs }
+abbrev pub with_codes : State → List ℕ → State
+with_codes s cs = record { terms = s.terms; rows = s.rows; codes = cs }
 
 -- the state with one code more
 abbrev pub with_code : State → ℕ → State
-with_code s c = withCodes s (s.codes ++ c ∷ [])
+with_code s c = with_codes s (s.codes ++ c ∷ [])
 
 -- the rows that are not muted, in order
 abbrev pub active : List Noted → List Row
@@ -37,5 +37,5 @@ active (m ∷ ms) = cond m.active (m.row ∷ active ms) (active ms)
 -- an arrangement that begins with the codes placed, and that the rule allows for the active rows
 pub record Completion (rule : List Term → List Row → List ℕ → Type 0) (s : State) : Type 0 where
   pub rest : List ℕ
-  pub full : Arrangement (length (seatsOf s.terms)) (s.codes ++ rest)
+  pub full : Arrangement (length (seats_of s.terms)) (s.codes ++ rest)
   pub allowed : rule s.terms (active s.rows) (s.codes ++ rest)

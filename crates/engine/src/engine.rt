@@ -1,8 +1,8 @@
 // The engine interface.
 ghost use Rattle.std.specs.Prelude.{◌≡◌, ℕ, true, false, List, ◌∷◌, ◌++◌};
-ghost use Rattle.engine.specs.Calls.{onLift, onMark, onNoteRow, onNoteTerm, onPlace, onStrike};
+ghost use Rattle.engine.specs.Calls.{on_lift, on_mark, on_note_row, on_note_term, on_place, on_strike};
 ghost use Rattle.engine.specs.Refusals.{answer_in};
-ghost use Rattle.engine.specs.States.{Completion, State, newState};
+ghost use Rattle.engine.specs.States.{Completion, State, new_state};
 ghost use Rattle.sheet.specs.declared.row.Row.{Row};
 ghost use Rattle.sheet.specs.declared.term.Term.{Term};
 
@@ -29,49 +29,49 @@ pub trait Engine {
 
     // Makes the engine new: it holds zero, no row and no code. It may be called at any time.
     fn renew(&mut self)
-        ensures leaves { state self.new ≡ newState }
+        ensures leaves { state self.new ≡ new_state }
         ensures keeps { setting self.new ≡ setting self.old };
 
     // Adds a term at the end.
     fn note_term(&mut self, term: Term) -> Result<(), Fault>
-        ensures answers { result ≡ answer_in LETTER (onNoteTerm (state self.old) term).refusal }
-        ensures leaves { state self.new ≡ (onNoteTerm (state self.old) term).next }
+        ensures answers { result ≡ answer_in LETTER (on_note_term (state self.old) term).refusal }
+        ensures leaves { state self.new ≡ (on_note_term (state self.old) term).next }
         ensures keeps { setting self.new ≡ setting self.old };
 
     // Adds a row at the end, active.
     fn note_row(&mut self, row: Row) -> Result<(), Fault>
-        ensures answers { result ≡ answer_in LETTER (onNoteRow (state self.old) row).refusal }
-        ensures leaves { state self.new ≡ (onNoteRow (state self.old) row).next }
+        ensures answers { result ≡ answer_in LETTER (on_note_row (state self.old) row).refusal }
+        ensures leaves { state self.new ≡ (on_note_row (state self.old) row).next }
         ensures keeps { setting self.new ≡ setting self.old };
 
     // Removes the last row.
     fn strike(&mut self) -> Result<(), Fault>
-        ensures answers { result ≡ answer_in LETTER (onStrike (state self.old)).refusal }
-        ensures leaves { state self.new ≡ (onStrike (state self.old)).next }
+        ensures answers { result ≡ answer_in LETTER (on_strike (state self.old)).refusal }
+        ensures leaves { state self.new ≡ (on_strike (state self.old)).next }
         ensures keeps { setting self.new ≡ setting self.old };
 
     // Makes row i count no more. It may be muted already.
     fn mute(&mut self, i: u8) -> Result<(), Fault>
-        ensures answers { result ≡ answer_in LETTER (onMark (state self.old) i false).refusal }
-        ensures leaves { state self.new ≡ (onMark (state self.old) i false).next }
+        ensures answers { result ≡ answer_in LETTER (on_mark (state self.old) i false).refusal }
+        ensures leaves { state self.new ≡ (on_mark (state self.old) i false).next }
         ensures keeps { setting self.new ≡ setting self.old };
 
     // Makes row i count again. It may be active already.
     fn unmute(&mut self, i: u8) -> Result<(), Fault>
-        ensures answers { result ≡ answer_in LETTER (onMark (state self.old) i true).refusal }
-        ensures leaves { state self.new ≡ (onMark (state self.old) i true).next }
+        ensures answers { result ≡ answer_in LETTER (on_mark (state self.old) i true).refusal }
+        ensures leaves { state self.new ≡ (on_mark (state self.old) i true).next }
         ensures keeps { setting self.new ≡ setting self.old };
 
     // Places the next seat by a code.
     fn place(&mut self, code: u8) -> Result<(), Fault>
-        ensures answers { result ≡ answer_in LETTER (onPlace (state self.old) code).refusal }
-        ensures leaves { state self.new ≡ (onPlace (state self.old) code).next }
+        ensures answers { result ≡ answer_in LETTER (on_place (state self.old) code).refusal }
+        ensures leaves { state self.new ≡ (on_place (state self.old) code).next }
         ensures keeps { setting self.new ≡ setting self.old };
 
     // Removes the last code.
     fn lift(&mut self) -> Result<(), Fault>
-        ensures answers { result ≡ answer_in LETTER (onLift (state self.old)).refusal }
-        ensures leaves { state self.new ≡ (onLift (state self.old)).next }
+        ensures answers { result ≡ answer_in LETTER (on_lift (state self.old)).refusal }
+        ensures leaves { state self.new ≡ (on_lift (state self.old)).next }
         ensures keeps { setting self.new ≡ setting self.old };
 
     // Whether some allowed arrangement begins with the codes placed.

@@ -1,10 +1,10 @@
 // The calls that all engines share. Each is told the letter of the engine that makes it, for its faults.
 ghost use Rattle.std.specs.Prelude.{◌≡◌, ℕ, ◌<◌, true, [], ◌∷◌, ◌++◌, IfOk, if◌then◌else◌, vec_len, vec_capacity};
-ghost use Rattle.engine.specs.Calls.{onLift, onMark, onNoteRow, onNoteTerm, onPlace, onStrike, withoutLast};
+ghost use Rattle.engine.specs.Calls.{on_lift, on_mark, on_note_row, on_note_term, on_place, on_strike, without_last};
 ghost use Rattle.engine.specs.Holding.{held};
 ghost use Rattle.engine.specs.Refusals.{answer_in};
-ghost use Rattle.engine.specs.States.{newState};
-ghost use Rattle.engine.specs.Terms.{isDated, seatsOf};
+ghost use Rattle.engine.specs.States.{new_state};
+ghost use Rattle.engine.specs.Terms.{is_dated, seats_of};
 
 use crate::arrangement::count_blocks;
 use crate::holdings::Holdings;
@@ -20,8 +20,8 @@ use std::alloc::{AllocError, Global};
 // Lists the term with this index among the seats if it is dated.
 fn list_seat(seats: &mut Vec<u8>, index: usize, kind: Kind)
     requires small { index < 256 }
-    requires room { isDated kind ≡ true → vec_len seats.old < vec_capacity seats.old }
-    ensures items { seats.new.items ≡ seats.old.items ++ (if isDated kind then index ∷ [] else []) }
+    requires room { is_dated kind ≡ true → vec_len seats.old < vec_capacity seats.old }
+    ensures items { seats.new.items ≡ seats.old.items ++ (if is_dated kind then index ∷ [] else []) }
     ensures capacity { vec_capacity seats.new ≡ vec_capacity seats.old }
 {
     if is_dated(kind) {
@@ -30,7 +30,7 @@ fn list_seat(seats: &mut Vec<u8>, index: usize, kind: Kind)
 }
 
 fn remove_last<T: Drop>(items: &mut Vec<T>)
-    ensures items { items.new.items ≡ withoutLast items.old.items }
+    ensures items { items.new.items ≡ without_last items.old.items }
     ensures capacity { vec_capacity items.new ≡ vec_capacity items.old }
 {
     let _ = items.pop();
@@ -39,7 +39,7 @@ fn remove_last<T: Drop>(items: &mut Vec<T>)
 impl Holdings {
     // Zero, no row and no code.
     pub fn new(heap: Global) -> Result<Holdings, AllocError>
-        ensures { IfOk result (λ h. held h ≡ newState) }
+        ensures { IfOk result (λ h. held h ≡ new_state) }
     {
         let mut terms = Vec::with_capacity(heap, MAX_TERMS)?;
         let mut seats = Vec::with_capacity(heap, MAX_SEATS)?;
@@ -57,7 +57,7 @@ impl Holdings {
 
     // The indices of the dated terms.
     pub fn seats(&self) -> &[u8]
-        ensures { result.now ≡ seatsOf (held self.now).terms }
+        ensures { result.now ≡ seats_of (held self.now).terms }
     {
         self.seats.as_slice()
     }
@@ -75,7 +75,7 @@ impl Holdings {
     }
 
     pub fn renew(&mut self)
-        ensures { held self.new ≡ newState }
+        ensures { held self.new ≡ new_state }
     {
         self.codes.clear();
         self.rows.clear();
@@ -86,8 +86,8 @@ impl Holdings {
     }
 
     pub fn note_term(&mut self, term: Term, letter: char) -> Result<(), Fault>
-        ensures answers { result ≡ answer_in letter (onNoteTerm (held self.old) term).refusal }
-        ensures leaves { held self.new ≡ (onNoteTerm (held self.old) term).next }
+        ensures answers { result ≡ answer_in letter (on_note_term (held self.old) term).refusal }
+        ensures leaves { held self.new ≡ (on_note_term (held self.old) term).next }
     {
         if let Some(cause) = term_refusal(&self.terms, term) {
             return Err(cause.in_layer(letter));
@@ -101,8 +101,8 @@ impl Holdings {
     }
 
     pub fn note_row(&mut self, row: Row, letter: char) -> Result<(), Fault>
-        ensures answers { result ≡ answer_in letter (onNoteRow (held self.old) row).refusal }
-        ensures leaves { held self.new ≡ (onNoteRow (held self.old) row).next }
+        ensures answers { result ≡ answer_in letter (on_note_row (held self.old) row).refusal }
+        ensures leaves { held self.new ≡ (on_note_row (held self.old) row).next }
     {
         if let Some(cause) = row_refusal(&self.terms, self.rows.len(), row) {
             return Err(cause.in_layer(letter));
@@ -115,8 +115,8 @@ impl Holdings {
     }
 
     pub fn strike(&mut self, letter: char) -> Result<(), Fault>
-        ensures answers { result ≡ answer_in letter (onStrike (held self.old)).refusal }
-        ensures leaves { held self.new ≡ (onStrike (held self.old)).next }
+        ensures answers { result ≡ answer_in letter (on_strike (held self.old)).refusal }
+        ensures leaves { held self.new ≡ (on_strike (held self.old)).next }
     {
         if self.rows.is_empty() {
             return Err(Cause::NoRowToStrike.in_layer(letter));
@@ -130,8 +130,8 @@ impl Holdings {
 
     // Makes row i active, or mutes it.
     pub fn mark(&mut self, i: u8, active: bool, letter: char) -> Result<(), Fault>
-        ensures answers { result ≡ answer_in letter (onMark (held self.old) i active).refusal }
-        ensures leaves { held self.new ≡ (onMark (held self.old) i active).next }
+        ensures answers { result ≡ answer_in letter (on_mark (held self.old) i active).refusal }
+        ensures leaves { held self.new ≡ (on_mark (held self.old) i active).next }
     {
         if i as usize >= self.rows.len() {
             return Err(Cause::NoSuchRow.in_layer(letter));
@@ -144,8 +144,8 @@ impl Holdings {
     }
 
     pub fn place(&mut self, code: u8, letter: char) -> Result<(), Fault>
-        ensures answers { result ≡ answer_in letter (onPlace (held self.old) code).refusal }
-        ensures leaves { held self.new ≡ (onPlace (held self.old) code).next }
+        ensures answers { result ≡ answer_in letter (on_place (held self.old) code).refusal }
+        ensures leaves { held self.new ≡ (on_place (held self.old) code).next }
     {
         if self.codes.len() >= self.seats.len() {
             return Err(Cause::EverySeatPlaced.in_layer(letter));
@@ -158,8 +158,8 @@ impl Holdings {
     }
 
     pub fn lift(&mut self, letter: char) -> Result<(), Fault>
-        ensures answers { result ≡ answer_in letter (onLift (held self.old)).refusal }
-        ensures leaves { held self.new ≡ (onLift (held self.old)).next }
+        ensures answers { result ≡ answer_in letter (on_lift (held self.old)).refusal }
+        ensures leaves { held self.new ≡ (on_lift (held self.old)).next }
     {
         if self.codes.is_empty() {
             return Err(Cause::NoCodeToLift.in_layer(letter));

@@ -1,8 +1,8 @@
 // What an engine holds.
 ghost use Rattle.std.specs.Prelude.{◌≡◌, ◌≤◌, true, vec_len, vec_capacity};
-ghost use Rattle.engine.specs.Arrangements.{isValid};
-ghost use Rattle.engine.specs.Fitting.{allRowsFit, allTermsFit};
-ghost use Rattle.engine.specs.Terms.{seatsOf};
+ghost use Rattle.engine.specs.Arrangements.{is_valid};
+ghost use Rattle.engine.specs.Fitting.{all_rows_fit, all_terms_fit};
+ghost use Rattle.engine.specs.Terms.{seats_of};
 
 use crate::noted::Noted;
 use sheet::term::Term;
@@ -23,9 +23,9 @@ pub struct Holdings {
     ghost few_terms: { vec_len terms ≤ 32 },
     ghost few_seats: { vec_len seats ≤ 8 },
     ghost few_rows: { vec_len rows ≤ 64 },
-    ghost terms_fit: { allTermsFit terms.items ≡ true },
-    ghost seats_listed: { seats.items ≡ seatsOf terms.items },
-    ghost rows_fit: { allRowsFit terms.items rows.items ≡ true },
+    ghost terms_fit: { all_terms_fit terms.items ≡ true },
+    ghost seats_listed: { seats.items ≡ seats_of terms.items },
+    ghost rows_fit: { all_rows_fit terms.items rows.items ≡ true },
     ghost codes_fit: { vec_len codes ≤ vec_len seats },
-    ghost codes_valid: { isValid 0 codes.items ≡ true },
+    ghost codes_valid: { is_valid 0 codes.items ≡ true },
 }

@@ -1,6 +1,6 @@
 // Why a term or a row is refused. The tests stand in the order in which they are made.
 ghost use Rattle.std.specs.Prelude.{◌≡◌, ℕ};
-ghost use Rattle.engine.specs.Refusals.{rowRefusal, termRefusal};
+ghost use Rattle.engine.specs.Refusals.{row_refusal, term_refusal};
 
 use crate::limits::{MAX_ROWS, MAX_SEATS, MAX_TERMS};
 use crate::rows::{has_terms_below, is_bound_past_limit, spans_level};
@@ -11,7 +11,7 @@ use sheet::term::Term;
 
 // Why the terms cannot take one more, if there is a reason.
 pub fn term_refusal(terms: &[Term], term: Term) -> Option<Cause>
-    ensures { result ≡ termRefusal terms.now term }
+    ensures { result ≡ term_refusal terms.now term }
 {
     if !term.form.is_well_lettered() {
         return Some(Cause::MalformedTerm);
@@ -33,7 +33,7 @@ pub fn term_refusal(terms: &[Term], term: Term) -> Option<Cause>
 
 // Why a row cannot follow `count` rows over these terms, if there is a reason.
 pub fn row_refusal(terms: &[Term], count: usize, row: Row) -> Option<Cause>
-    ensures { result ≡ rowRefusal terms.now count row }
+    ensures { result ≡ row_refusal terms.now count row }
 {
     if count >= MAX_ROWS {
         return Some(Cause::RowsFull);

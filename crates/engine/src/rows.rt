@@ -1,6 +1,6 @@
 // What is asked of rows: the terms that they name, and the limits of a bound.
 ghost use Rattle.std.specs.Prelude.{◌≡◌, ℕ};
-ghost use Rattle.engine.specs.Rows.{boundPastLimit, spansLevel, termsBelow};
+ghost use Rattle.engine.specs.Rows.{bound_past_limit, spans_level, terms_below};
 
 use crate::limits::MAX_BOUND;
 use crate::terms::is_dated_at;
@@ -9,7 +9,7 @@ use sheet::term::Term;
 
 // Whether both terms are among the first n.
 pub(crate) fn has_terms_below(row: Row, n: usize) -> bool
-    ensures { result ≡ termsBelow n row }
+    ensures { result ≡ terms_below n row }
 {
     match row {
         Row::Span { left, right, .. } | Row::Same { left, right } | Row::Unlike { left, right } =>
@@ -19,7 +19,7 @@ pub(crate) fn has_terms_below(row: Row, n: usize) -> bool
 
 // Whether the row is a span with a level in it.
 pub(crate) fn spans_level(row: Row, terms: &[Term]) -> bool
-    ensures { result ≡ spansLevel terms.now row }
+    ensures { result ≡ spans_level terms.now row }
 {
     match row {
         Row::Span { left, right, .. } => !(is_dated_at(terms, left) && is_dated_at(terms, right)),
@@ -29,7 +29,7 @@ pub(crate) fn spans_level(row: Row, terms: &[Term]) -> bool
 
 // Whether the row is a span with a bound past its limits.
 pub(crate) fn is_bound_past_limit(row: Row) -> bool
-    ensures { result ≡ boundPastLimit row }
+    ensures { result ≡ bound_past_limit row }
 {
     match row {
         Row::Span { bound, .. } => bound < -MAX_BOUND || bound > MAX_BOUND,

@@ -1,6 +1,6 @@
 // What is asked of terms: which are dated, and what an application asks of the terms before it.
 ghost use Rattle.std.specs.Prelude.{◌≡◌, ℕ, ◌≤◌, length};
-ghost use Rattle.engine.specs.Terms.{isDated, isDatedAt, seatsOf, argumentsBelow, atOdds, anyAtOdds};
+ghost use Rattle.engine.specs.Terms.{is_dated, is_dated_at, seats_of, arguments_below, at_odds, any_at_odds};
 
 use sheet::term::{Form, Kind, Term};
 
@@ -11,7 +11,7 @@ pub const ZERO: Term = Term {
 };
 
 pub fn is_dated(kind: Kind) -> bool
-    ensures { result ≡ isDated kind }
+    ensures { result ≡ is_dated kind }
 {
     match kind {
         Kind::Dated => true,
@@ -21,7 +21,7 @@ pub fn is_dated(kind: Kind) -> bool
 
 // Whether term i is dated; one that is not there counts as dated.
 pub(crate) fn is_dated_at(terms: &[Term], i: u8) -> bool
-    ensures { result ≡ isDatedAt terms.now i }
+    ensures { result ≡ is_dated_at terms.now i }
 {
     match terms.get(i as usize) {
         Some(term) => is_dated(term.kind),
@@ -31,7 +31,7 @@ pub(crate) fn is_dated_at(terms: &[Term], i: u8) -> bool
 
 // How many of the terms are dated.
 pub(crate) fn count_seats(terms: &[Term]) -> usize
-    ensures value { result ≡ length (seatsOf terms.now) }
+    ensures value { result ≡ length (seats_of terms.now) }
     ensures bound { result ≤ length terms.now }
 {
     let mut count = 0;
@@ -45,7 +45,7 @@ pub(crate) fn count_seats(terms: &[Term]) -> usize
 
 // Whether each argument is one of the first n terms.
 pub(crate) fn has_arguments_below(form: Form, n: usize) -> bool
-    ensures { result ≡ argumentsBelow n form }
+    ensures { result ≡ arguments_below n form }
 {
     match form {
         Form::Name => true,
@@ -56,7 +56,7 @@ pub(crate) fn has_arguments_below(form: Form, n: usize) -> bool
 
 // Whether the two apply one table to different counts of arguments.
 pub(crate) fn are_at_odds(form: Form, other: Form) -> bool
-    ensures { result ≡ atOdds form other }
+    ensures { result ≡ at_odds form other }
 {
     match (form, other) {
         (Form::One { table: a, .. }, Form::Two { table: b, .. }) => a == b,
@@ -67,7 +67,7 @@ pub(crate) fn are_at_odds(form: Form, other: Form) -> bool
 
 // Whether some term applies the form's table to another count of arguments.
 pub(crate) fn is_at_odds_with_any(form: Form, terms: &[Term]) -> bool
-    ensures { result ≡ anyAtOdds form terms.now }
+    ensures { result ≡ any_at_odds form terms.now }
 {
     for term in terms {
         if are_at_odds(form, term.form) {

@@ -6,7 +6,7 @@ use Rattle.sheet.specs.declared.fault.Fault.{Fault}
 use Rattle.sheet.specs.declared.field.Field.{Field}
 use Rattle.sheet.specs.Encoding.{Written, encode}
 use Rattle.sheet.specs.Fields.{FieldValue, value_of}
-use Rattle.sheet.specs.Parsing.{outcome, parse, remaining, restAfter, statedLength}
+use Rattle.sheet.specs.Parsing.{outcome, parse, remaining, rest_after, stated_length}
 use Rattle.sheet.specs.RoundTrips.{ReadRight, WrittenAgain}
 use Rattle.fieldlist.specs.WritingBack.{Alike, Front, none, more}
 
@@ -27,15 +27,15 @@ start s =
 pub record Took (t : List ℕ) (f : FieldValue) (u : List ℕ) : Type 0 where
   pub read : parse t ≡ Ok f
   pub rest : u ≡ remaining t
-  pub used : length u + (3 + statedLength t) ≡ length t
-  pub again : WrittenAgain t f (3 + statedLength t)
+  pub used : length u + (3 + stated_length t) ≡ length t
+  pub again : WrittenAgain t f (3 + stated_length t)
 
 -- from what the reader promises
-pub took : (t u : List ℕ) (r : Result Field Fault) (field : Field) → r ≡ Ok field → outcome r ≡ parse t → u ≡ remaining t → ReadRight t (outcome r) → MatchResult r (λ _. length u + (3 + statedLength t) ≡ length t) (λ _. u ≡ t) → Took t (value_of field) u
+pub took : (t u : List ℕ) (r : Result Field Fault) (field : Field) → r ≡ Ok field → outcome r ≡ parse t → u ≡ remaining t → ReadRight t (outcome r) → MatchResult r (λ _. length u + (3 + stated_length t) ≡ length t) (λ _. u ≡ t) → Took t (value_of field) u
 took t u r field is answer rest sound used = record {
   read = sym answer ∙ ap outcome is;
   rest = rest;
-  used = subst (λ x. MatchResult x (λ _. length u + (3 + statedLength t) ≡ length t) (λ _. u ≡ t)) is used;
+  used = subst (λ x. MatchResult x (λ _. length u + (3 + stated_length t) ≡ length t) (λ _. u ≡ t)) is used;
   again = (subst (λ x. ReadRight t (outcome x)) is sound).1;
 }
 
@@ -45,10 +45,10 @@ step s t u n m f w k more-one =
     let long = w.long in
     let count = w.count in
     let used = k.used in
-    let size = 3 + statedLength t in
+    let size = 3 + stated_length t in
     let p = length s - length t in
     let sum : p + size ≡ length s - length u = omega arith in
-    let ends : u ≡ drop size t = k.rest ∙ ap (λ r. restAfter r t) k.read in
+    let ends : u ≡ drop size t = k.rest ∙ ap (λ r. rest_after r t) k.read in
     record {
       fields = f ∷ w.fields;
       front = subst (λ x. Front s (f ∷ w.fields) x) (sym k.rest) (more w.front k.read);
@@ -61,7 +61,7 @@ step s t u n m f w k more-one =
 pub alike : (t u part : List ℕ) (f : FieldValue) (m : ℕ) → Took t f u → m ≡ length t - length u → m ≤ length part → Alike (encode f part) (take m t)
 alike t u part f m k e room =
     let used = k.used in
-    let size = 3 + statedLength t in
+    let size = 3 + stated_length t in
     let taken : m ≡ size = omega arith in
     let fits : size ≤ length t = omega arith in
     let long : length (take m t) ≡ size = ap (λ x. length (take x t)) taken ∙ length-take-le size t fits in
@@ -79,15 +79,15 @@ pub record Copied (s u b : List ℕ) : Type 0 where
 pub copy : (s t u b old part : List ℕ) (f : FieldValue) (p : ℕ) → Took t f u → t ≡ drop p s → length t ≤ length s → p ≡ length s - length t → Copied s t b → old ≡ drop p b → part ≡ (encode f old).buffer → Copied s u (put_mid p (length b - p) b part)
 copy s t u b old part f p k ends fits place before is after =
     let used = k.used in
-    let b-long = before.long in
-    let size = 3 + statedLength t in
+    let b_long = before.long in
+    let size = 3 + stated_length t in
     let sum : length s - length u ≡ p + size = omega arith in
     let room : size ≤ length old = rw is (simp length-drop (omega arith)) in
     let past : List ℕ = drop (length b - p) (drop p b) in
     let gone : length past ≡ 0 = simp length-drop (omega arith) in
     let held : part ≡ take size t ++ drop size old = after ∙ ap (λ (w : Written Fault). w.buffer) (k.again old room) in
-    let old-long : length old ≡ length b - p = ap length is ∙ length-drop p b in
-    let part-long : length part ≡ length b - p = ap length held ∙ simp (length-append, length-take, length-drop) (omega arith) in
+    let old_long : length old ≡ length b - p = ap length is ∙ length-drop p b in
+    let part_long : length part ≡ length b - p = ap length held ∙ simp (length-append, length-take, length-drop) (omega arith) in
     let front : length (take p b ++ take size t) ≡ p + size = simp (length-append, length-take) (omega arith) in
     let joined : take p b ++ (part ++ past) ≡ (take p b ++ take size t) ++ (drop size old ++ past) =
     ap (λ x. take p b ++ (x ++ past)) held ∙ ap (λ x. take p b ++ x) (append_assoc (take size t) (drop size old) past) ∙ sym (append_assoc (take p b) (take size t) (drop size old ++ past)) in
@@ -106,12 +106,12 @@ pub whole : (s t : List ℕ) (n : ℕ) → Walked s t n → length t ≡ 0 → (
 whole s t n w none_left = (w.fields, subst (Front s w.fields) (nil_from_length t none_left) w.front, w.count)
 
 -- and the buffer holds the sheet
-pub all-copied : (s t b : List ℕ) → length t ≡ 0 → Copied s t b → b ≡ s
-all-copied s t b none_left c =
+pub all_copied : (s t b : List ℕ) → length t ≡ 0 → Copied s t b → b ≡ s
+all_copied s t b none_left c =
     let long = c.long in
     sym (take_all (length s - length t) b (omega arith)) ∙ c.same ∙ take_all (length s - length t) s (omega arith)
 
-pub none-copied : (s b : List ℕ) → length b ≡ length s → Copied s s b
-none-copied s b e =
+pub none_copied : (s b : List ℕ) → length b ≡ length s → Copied s s b
+none_copied s b e =
     let z : length s - length s ≡ 0 = omega arith in
     record { long = e; same = ap (λ n. take n b) z ∙ ap (λ n. take n s) (sym z) }

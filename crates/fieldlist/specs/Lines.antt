@@ -9,34 +9,34 @@ use Rattle.sheet.specs.declared.term.Form.{Form}
 use Rattle.sheet.specs.declared.term.Form.TheVariants.{Name, One, Two}
 use Rattle.sheet.specs.declared.term.Kind.{Kind}
 use Rattle.sheet.specs.declared.term.Kind.TheVariants.{Dated, Level}
-use Rattle.sheet.specs.Causes.{causeNumber}
-use Rattle.sheet.specs.Fields.{FieldValue, termField, rowField}
+use Rattle.sheet.specs.Causes.{cause_number}
+use Rattle.sheet.specs.Fields.{FieldValue, term_field, row_field}
 use Rattle.fieldlist.specs.declared.write_back.Ending.{Ending}
 use Rattle.fieldlist.specs.declared.write_back.Ending.TheVariants.{Whole, Refused}
 
-abbrev pub wordsOfKind : Kind → List ℕ
-wordsOfKind Dated = codes "dated"
-wordsOfKind Level = codes "a level"
+abbrev pub words_of_kind : Kind → List ℕ
+words_of_kind Dated = codes "dated"
+words_of_kind Level = codes "a level"
 
-abbrev pub wordsOfForm : Form → List ℕ
-wordsOfForm Name = codes "a name"
-wordsOfForm (One a x) = codes "table " ++ (encode a ++ (codes " at term " ++ decimal x))
-wordsOfForm (Two a x y) = codes "table " ++ (encode a ++ (codes " at terms " ++ (decimal x ++ (codes " and " ++ decimal y))))
+abbrev pub words_of_form : Form → List ℕ
+words_of_form Name = codes "a name"
+words_of_form (One a x) = codes "table " ++ (encode a ++ (codes " at term " ++ decimal x))
+words_of_form (Two a x y) = codes "table " ++ (encode a ++ (codes " at terms " ++ (decimal x ++ (codes " and " ++ decimal y))))
 
-abbrev pub wordsOfRow : Row → List ℕ
-wordsOfRow (Span i j c) = codes "span: term " ++ (decimal i ++ (codes " - term " ++ (decimal j ++ (codes " <= " ++ signed_decimal c))))
-wordsOfRow (Same i j) = codes "same: term " ++ (decimal i ++ (codes " = term " ++ decimal j))
-wordsOfRow (Unlike i j) = codes "unlike: term " ++ (decimal i ++ (codes " <> term " ++ decimal j))
+abbrev pub words_of_row : Row → List ℕ
+words_of_row (Span i j c) = codes "span: term " ++ (decimal i ++ (codes " - term " ++ (decimal j ++ (codes " <= " ++ signed_decimal c))))
+words_of_row (Same i j) = codes "same: term " ++ (decimal i ++ (codes " = term " ++ decimal j))
+words_of_row (Unlike i j) = codes "unlike: term " ++ (decimal i ++ (codes " <> term " ++ decimal j))
 
 -- each byte as the character with that code
-abbrev pub textOfLabel : List ℕ → List ℕ
-textOfLabel l = flat_map encode l
+abbrev pub text_of_label : List ℕ → List ℕ
+text_of_label l = flat_map encode l
 
 -- the field with these values, which starts at byte p and has the index n
-abbrev pub fieldLine : ℕ → ℕ → FieldValue → List ℕ
-fieldLine p n (termField t l) = codes "byte " ++ (decimal p ++ (codes ": term " ++ (decimal n ++ (codes " is " ++ (wordsOfKind t.kind ++ (codes ", " ++ (wordsOfForm t.form ++ (codes ", labelled " ++ textOfLabel l))))))))
-fieldLine p n (rowField r) = codes "byte " ++ (decimal p ++ (codes ": row " ++ (decimal n ++ (codes " says " ++ wordsOfRow r))))
+abbrev pub field_line : ℕ → ℕ → FieldValue → List ℕ
+field_line p n (term_field t l) = codes "byte " ++ (decimal p ++ (codes ": term " ++ (decimal n ++ (codes " is " ++ (words_of_kind t.kind ++ (codes ", " ++ (words_of_form t.form ++ (codes ", labelled " ++ text_of_label l))))))))
+field_line p n (row_field r) = codes "byte " ++ (decimal p ++ (codes ": row " ++ (decimal n ++ (codes " says " ++ words_of_row r))))
 
-abbrev pub lastLine : Ending → List ℕ
-lastLine (Whole fields bytes alike bytesAlike) = decimal fields ++ (codes " fields and " ++ (decimal bytes ++ (codes " bytes read, " ++ (decimal alike ++ (codes " fields and " ++ (decimal bytesAlike ++ codes " bytes written back alike"))))))
-lastLine (Refused fault place) = codes "refused " ++ (decimal (causeNumber fault.cause) ++ (codes " " ++ (encode fault.layer ++ (codes " " ++ decimal place))))
+abbrev pub last_line : Ending → List ℕ
+last_line (Whole fields bytes alike bytes_alike) = decimal fields ++ (codes " fields and " ++ (decimal bytes ++ (codes " bytes read, " ++ (decimal alike ++ (codes " fields and " ++ (decimal bytes_alike ++ codes " bytes written back alike"))))))
+last_line (Refused fault place) = codes "refused " ++ (decimal (cause_number fault.cause) ++ (codes " " ++ (encode fault.layer ++ (codes " " ++ decimal place))))

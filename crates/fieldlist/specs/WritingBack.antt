@@ -19,6 +19,6 @@ pub data Front (s : List ℕ) : List FieldValue → List ℕ → Type 0 where
 -- the sheet s was read, and the buffer holds b then
 abbrev pub Ended : List ℕ → List ℕ → Ending → Type 0
 -- every byte of s belongs to a field, every field was found alike, and b is s
-Ended s b (Whole fields bytes alike bytesAlike) = (fs : List FieldValue) × Front s fs [] × (fields ≡ length fs) × (bytes ≡ length s) × (alike ≡ fields) × (bytesAlike ≡ bytes) × (b ≡ s)
+Ended s b (Whole fields bytes alike bytes_alike) = (fs : List FieldValue) × Front s fs [] × (fields ≡ length fs) × (bytes ≡ length s) × (alike ≡ fields) × (bytes_alike ≡ bytes) × (b ≡ s)
 -- fields stand before byte p, and b has their bytes; what starts at byte p is refused
 Ended s b (Refused fault p) = (fs : List FieldValue) × Front s fs (drop p s) × (parse (drop p s) ≡ Err fault) × (p < length s) × (take p b ≡ take p s)

@@ -1,6 +1,6 @@
 // The lines of a sheet's fields.
 ghost use Rattle.std.specs.Prelude.{◌≡◌, IfOk, string_bytes};
-ghost use Rattle.fieldlist.specs.Listing.{Listing, isTerm};
+ghost use Rattle.fieldlist.specs.Listing.{Listing, is_term};
 ghost use Rattle.sheet.specs.Fields.{value_of};
 
 use crate::words::Line;
@@ -44,7 +44,7 @@ pub(crate) fn list_fields(heap: Global, sheet: &[u8]) -> Result<String, AllocErr
 }
 
 fn is_term(field: &Field<'_>) -> bool
-    ensures { result ≡ isTerm (value_of field.now) }
+    ensures { result ≡ is_term (value_of field.now) }
 {
     match field {
         Field::Term { .. } => true,

@@ -1,5 +1,5 @@
 // Fields, endings and refusals in words.
-ghost use Rattle.fieldlist.specs.Lines.{fieldLine, lastLine, textOfLabel, wordsOfForm, wordsOfKind, wordsOfRow};
+ghost use Rattle.fieldlist.specs.Lines.{field_line, last_line, text_of_label, words_of_form, words_of_kind, words_of_row};
 ghost use Rattle.sheet.specs.Fields.{value_of};
 ghost use Rattle.std.specs.Prelude.{Some};
 
@@ -33,7 +33,7 @@ struct RowWords(Row);
 struct LabelText<'a>(&'a [u8]);
 
 impl fmt::Display for Line<'_> {
-    ghost output = { λ l. Some (fieldLine l.place l.index (value_of l.field)) };
+    ghost output = { λ l. Some (field_line l.place l.index (value_of l.field)) };
 
     fn fmt<W: fmt::Write>(&self, f: &mut fmt::Formatter<W>) -> fmt::Result {
         let place = self.place;
@@ -57,7 +57,7 @@ impl fmt::Display for Line<'_> {
 }
 
 impl fmt::Display for KindWords {
-    ghost output = { λ k. Some (wordsOfKind k.0) };
+    ghost output = { λ k. Some (words_of_kind k.0) };
 
     fn fmt<W: fmt::Write>(&self, f: &mut fmt::Formatter<W>) -> fmt::Result {
         match self.0 {
@@ -68,7 +68,7 @@ impl fmt::Display for KindWords {
 }
 
 impl fmt::Display for FormWords {
-    ghost output = { λ g. Some (wordsOfForm g.0) };
+    ghost output = { λ g. Some (words_of_form g.0) };
 
     fn fmt<W: fmt::Write>(&self, f: &mut fmt::Formatter<W>) -> fmt::Result {
         match self.0 {
@@ -84,7 +84,7 @@ impl fmt::Display for FormWords {
 }
 
 impl fmt::Display for RowWords {
-    ghost output = { λ r. Some (wordsOfRow r.0) };
+    ghost output = { λ r. Some (words_of_row r.0) };
 
     fn fmt<W: fmt::Write>(&self, f: &mut fmt::Formatter<W>) -> fmt::Result {
         match self.0 {
@@ -99,7 +99,7 @@ impl fmt::Display for RowWords {
 }
 
 impl fmt::Display for LabelText<'_> {
-    ghost output = { λ l. Some (textOfLabel l.0.now) };
+    ghost output = { λ l. Some (text_of_label l.0.now) };
 
     fn fmt<W: fmt::Write>(&self, f: &mut fmt::Formatter<W>) -> fmt::Result {
         for byte in self.0 {
@@ -111,7 +111,7 @@ impl fmt::Display for LabelText<'_> {
 
 // The last line of a listing.
 impl fmt::Display for Ending {
-    ghost output = { λ e. Some (lastLine e) };
+    ghost output = { λ e. Some (last_line e) };
 
     fn fmt<W: fmt::Write>(&self, f: &mut fmt::Formatter<W>) -> fmt::Result {
         match *self {

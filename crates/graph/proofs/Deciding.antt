@@ -5,10 +5,10 @@ use Rattle.std.specs.List.{ContainsAt as Has}
 use Rattle.std.proofs.lemmas.Int.{ints}
 use Rattle.std.proofs.ByRecursion.{all-has, all_has_itself}
 use Rattle.graph.specs.declared.Edge.{Edge}
-use Rattle.graph.specs.Graph.{Within, EdgeHolds, Feasible, Walk, total, NegativeCycle, at, through, relaxed, round, rounds, zeros, isStable}
-use Rattle.graph.specs.Claims.{after, Below, LowSolution, Greatest, Among, Exact-among, Bounded-among}
-use Rattle.graph.proofs.Relaxing.{relaxed-at, relaxed-le, relaxed-length, round-length, round-le, round-ends, rounds-keep, zeros-at, zeros-length, stable-solution, unstable-edge}
-use Rattle.graph.proofs.Walks.{Simple, simplify, simple-short, cycle-refutes, walk-weight}
+use Rattle.graph.specs.Graph.{Within, EdgeHolds, Feasible, Walk, total, NegativeCycle, at, through, relaxed, round, rounds, zeros, is_stable}
+use Rattle.graph.specs.Claims.{after, Below, LowSolution, Greatest, Among, ExactAmong, BoundedAmong}
+use Rattle.graph.proofs.Relaxing.{relaxed_at, relaxed_le, relaxed_length, round_length, round_le, round_ends, rounds_keep, zeros_at, zeros_length, stable_solution, unstable_edge}
+use Rattle.graph.proofs.Walks.{Simple, simplify, simple_short, cycle_refutes, walk_weight}
 
 module _ (n : ℕ) (es : List Edge) (within : Within n es) where
   to_in : (e : Edge) → Has es e → e.to < n
@@ -18,35 +18,35 @@ module _ (n : ℕ) (es : List Edge) (within : Within n es) where
   from_in e h = (all-has (λ e. (e.to < n) × (e.from < n)) es e within h).1
 
   below : (k : ℕ) (x : ℕ → ℤ) → LowSolution n es x → Below n x (at (after n k es))
-  below k x s = (rounds-keep (λ d. (length d ≡ n) × Below n x (at d)) es step k (zeros n) (zeros-length n, λ v i. subst (λ (y : ℤ). x v ≤ℤ y) (sym (zeros-at n v)) (s.1 v i))).1
+  below k x s = (rounds_keep (λ d. (length d ≡ n) × Below n x (at d)) es step k (zeros n) (zeros_length n, λ v i. subst (λ (y : ℤ). x v ≤ℤ y) (sym (zeros_at n v)) (s.1 v i))).1
     where
       step : (e : Edge) → Has es e → (d : List ℤ) → (length d ≡ n) × Below n x (at d) → (length (relaxed e d) ≡ n) × Below n x (at (relaxed e d))
-      step e h d q = (relaxed-length e d ∙ q.0, under)
+      step e h d q = (relaxed_length e d ∙ q.0, under)
         where
           under : Below n x (at (relaxed e d))
-          under v i = elim (relaxed-at e d v (omega (arith, q.0, to_in e h))) [
+          under v i = elim (relaxed_at e d v (omega (arith, q.0, to_in e h))) [
             | inl r ↦ (let a : x v ≡ x e.to = ap x r.0 in let b : x e.to ≤ℤ (x e.from +ℤ e.weight) = all-has (EdgeHolds x) es e s.0 h in let c : x e.from ≤ℤ at d e.from = q.1 e.from (from_in e h) in let g : at (relaxed e d) v ≡ through e d = r.2 in omega (arith, ints))
             | inr r ↦ (let c : x v ≤ℤ at d v = q.1 v i in let g : at (relaxed e d) v ≡ at d v = r.0 in omega (arith, ints))
           ]
 
-  never-above : (k : ℕ) (v : ℕ) → at (after n k es) v ≤ℤ pos 0
-  never-above k v = (rounds-keep (λ d. (length d ≡ n) × (at d v ≤ℤ pos 0)) es step k (zeros n) (zeros-length n, subst (λ (y : ℤ). y ≤ℤ pos 0) (sym (zeros-at n v)) (≤ℤ_refl (pos 0)))).1
+  never_above : (k : ℕ) (v : ℕ) → at (after n k es) v ≤ℤ pos 0
+  never_above k v = (rounds_keep (λ d. (length d ≡ n) × (at d v ≤ℤ pos 0)) es step k (zeros n) (zeros_length n, subst (λ (y : ℤ). y ≤ℤ pos 0) (sym (zeros_at n v)) (≤ℤ_refl (pos 0)))).1
     where
       step : (e : Edge) → Has es e → (d : List ℤ) → (length d ≡ n) × (at d v ≤ℤ pos 0) → (length (relaxed e d) ≡ n) × (at (relaxed e d) v ≤ℤ pos 0)
-      step e h d q = (relaxed-length e d ∙ q.0, (let a : at (relaxed e d) v ≤ℤ at d v = relaxed-le e d v (omega (arith, q.0, to_in e h)) in let b : at d v ≤ℤ pos 0 = q.1 in omega (arith, ints)))
+      step e h d q = (relaxed_length e d ∙ q.0, (let a : at (relaxed e d) v ≤ℤ at d v = relaxed_le e d v (omega (arith, q.0, to_in e h)) in let b : at d v ≤ℤ pos 0 = q.1 in omega (arith, ints)))
 
   -- each distance is the weight of a walk
   abbrev WalkTo : List ℤ → ℕ → Type 0
   WalkTo d v = (p : List Edge) × (u : ℕ) × Walk es v p u × (at d v ≡ total p)
 
-  walk-to : (k v : ℕ) → v < n → WalkTo (after n k es) v
-  walk-to k = (rounds-keep (λ d. (length d ≡ n) × ((v : ℕ) → v < n → WalkTo d v)) es step k (zeros n) (zeros-length n, λ v h. ([], v, refl, zeros-at n v))).1
+  walk_to : (k v : ℕ) → v < n → WalkTo (after n k es) v
+  walk_to k = (rounds_keep (λ d. (length d ≡ n) × ((v : ℕ) → v < n → WalkTo d v)) es step k (zeros n) (zeros_length n, λ v h. ([], v, refl, zeros_at n v))).1
     where
       step : (e : Edge) → Has es e → (d : List ℤ) → (length d ≡ n) × ((v : ℕ) → v < n → WalkTo d v) → (length (relaxed e d) ≡ n) × ((v : ℕ) → v < n → WalkTo (relaxed e d) v)
-      step e h d q = (relaxed-length e d ∙ q.0, along)
+      step e h d q = (relaxed_length e d ∙ q.0, along)
         where
           along : (v : ℕ) → v < n → WalkTo (relaxed e d) v
-          along v i = elim (relaxed-at e d v (omega (arith, q.0, to_in e h))) [
+          along v i = elim (relaxed_at e d v (omega (arith, q.0, to_in e h))) [
             | inl r ↦ (let o : WalkTo d e.from = q.1 e.from (from_in e h) in
                 let f : at d e.from ≡ total o.0 = o.3 in let g : at (relaxed e d) v ≡ through e d = r.2 in
                 (e ∷ o.0, o.1, (h, sym r.0, o.2), omega (arith, ints)))
@@ -58,77 +58,77 @@ module _ (n : ℕ) (es : List Edge) (within : Within n es) where
   Least k d = (length d ≡ n) × ((v : ℕ) (p : List Edge) (u : ℕ) → Walk es v p u → length p ≤ k → at d v ≤ℤ total p)
 
   least_more : (k : ℕ) (d : List ℤ) → Least k d → Least (suc k) (round es d)
-  least_more k d q = (round-length es d ∙ q.0, longer)
+  least_more k d q = (round_length es d ∙ q.0, longer)
     where
       longer : (v : ℕ) (p : List Edge) (u : ℕ) → Walk es v p u → length p ≤ suc k → at (round es d) v ≤ℤ total p
-      longer v [] u w l = (let a : at (round es d) v ≤ℤ at d v = round-le n es d v q.0 within in let b : at d v ≤ℤ pos 0 = q.1 v [] u w (omega arith) in omega (arith, ints))
+      longer v [] u w l = (let a : at (round es d) v ≤ℤ at d v = round_le n es d v q.0 within in let b : at d v ≤ℤ pos 0 = q.1 v [] u w (omega arith) in omega (arith, ints))
       longer v (e ∷ p) u w l =
-          (let a : at (round es d) e.to ≤ℤ through e d = all-has (λ e. at (round es d) e.to ≤ℤ through e d) es e (round-ends n es d q.0 within) w.0 in
+          (let a : at (round es d) e.to ≤ℤ through e d = all-has (λ e. at (round es d) e.to ≤ℤ through e d) es e (round_ends n es d q.0 within) w.0 in
           let b : at d e.from ≤ℤ total p = q.1 e.from p u w.2 (omega arith) in
           let c : at (round es d) e.to ≡ at (round es d) v = ap (at (round es d)) w.1 in
           omega (arith, ints))
 
-  least-rounds : (j k m : ℕ) (d : List ℤ) → m ≡ j + k → Least k d → Least m (rounds j es d)
-  least-rounds zero k m d e q = subst (λ (i : ℕ). Least i d) (omega arith) q
-  least-rounds (suc j) k m d e q = least-rounds j (suc k) m (round es d) (omega arith) (least_more k d q)
+  least_rounds : (j k m : ℕ) (d : List ℤ) → m ≡ j + k → Least k d → Least m (rounds j es d)
+  least_rounds zero k m d e q = subst (λ (i : ℕ). Least i d) (omega arith) q
+  least_rounds (suc j) k m d e q = least_rounds j (suc k) m (round es d) (omega arith) (least_more k d q)
 
   least : (k : ℕ) → Least k (after n k es)
-  least k = least-rounds k 0 k (zeros n) (omega arith) (zeros-length n, start)
+  least k = least_rounds k 0 k (zeros n) (omega arith) (zeros_length n, start)
     where
       start : (v : ℕ) (p : List Edge) (u : ℕ) → Walk es v p u → length p ≤ 0 → at (zeros n) v ≤ℤ total p
-      start v [] u w l = subst (λ (y : ℤ). y ≤ℤ pos 0) (sym (zeros-at n v)) (≤ℤ_refl (pos 0))
+      start v [] u w l = subst (λ (y : ℤ). y ≤ℤ pos 0) (sym (zeros_at n v)) (≤ℤ_refl (pos 0))
       start v (e ∷ p) u w l = absurd (omega arith)
 
   module _ (vs : List ℕ) (among : Among vs es) where
     -- an edge that lowers its end after so many rounds closes a negative cycle
-    unstable-cycle : (k : ℕ) → length vs ≤ suc k → isStable es (after n k es) ≡ false → NegativeCycle es
-    unstable-cycle k b h = by-edge (unstable-edge es es (after n k es) (all_has_itself es) h)
+    unstable_cycle : (k : ℕ) → length vs ≤ suc k → is_stable es (after n k es) ≡ false → NegativeCycle es
+    unstable_cycle k b h = by_edge (unstable_edge es es (after n k es) (all_has_itself es) h)
       where
-        by-edge : (e : Edge) × Has es e × (through e (after n k es) <ℤ at (after n k es) e.to) → NegativeCycle es
-        by-edge (e, i, lt) = by-walk (walk-to k e.from (from_in e i))
+        by_edge : (e : Edge) × Has es e × (through e (after n k es) <ℤ at (after n k es) e.to) → NegativeCycle es
+        by_edge (e, i, lt) = by_walk (walk_to k e.from (from_in e i))
           where
-            by-walk : WalkTo (after n k es) e.from → NegativeCycle es
-            by-walk (p, u, w, q) = by-simple (simplify es e.to (e ∷ p) u (i, refl, w))
+            by_walk : WalkTo (after n k es) e.from → NegativeCycle es
+            by_walk (p, u, w, q) = by_simple (simplify es e.to (e ∷ p) u (i, refl, w))
               where
-                by-simple : NegativeCycle es ⊎ Simple es e.to (e ∷ p) u → NegativeCycle es
-                by-simple (inl c) = c
-                by-simple (inr s) = absurd
-                    (let short : suc (length s.0) ≤ length vs = simple-short vs es among e.to s.0 u (all-has (λ e. Has vs e.to × Has vs e.from) es e among i).0 s.1 s.2 in
+                by_simple : NegativeCycle es ⊎ Simple es e.to (e ∷ p) u → NegativeCycle es
+                by_simple (inl c) = c
+                by_simple (inr s) = absurd
+                    (let short : suc (length s.0) ≤ length vs = simple_short vs es among e.to s.0 u (all-has (λ e. Has vs e.to × Has vs e.from) es e among i).0 s.1 s.2 in
                     let a : at (after n k es) e.to ≤ℤ total s.0 = (least k).1 e.to s.0 u s.1 (omega arith) in
                     let c : total s.0 ≤ℤ total (e ∷ p) = s.3 in
                     omega (arith, ints))
 
 pub greatest : Greatest
-greatest n k es within h = ((stable-solution es (after n k es) h, λ v i. never-above n es within k v), below n es within k)
+greatest n k es within h = ((stable_solution es (after n k es) h, λ v i. never_above n es within k v), below n es within k)
 
-so-true : (b : Bool) → (b ≡ false → ⊥) → b ≡ true
-so-true true f = refl
-so-true false f = absurd (f refl)
+so_true : (b : Bool) → (b ≡ false → ⊥) → b ≡ true
+so_true true f = refl
+so_true false f = absurd (f refl)
 
 so_false : (b : Bool) → (b ≡ true → ⊥) → b ≡ false
 so_false false f = refl
 so_false true f = absurd (f refl)
 
-pub exact-among : Exact-among
-exact-among n k vs es within among b = (solved, cycle, λ x. so-true (isStable es (after n k es)) (λ h. cycle-refutes es (cycle h) x), λ c. so_false (isStable es (after n k es)) (λ h. cycle-refutes es c (solved h)), cycle-refutes es)
+pub exact_among : ExactAmong
+exact_among n k vs es within among b = (solved, cycle, λ x. so_true (is_stable es (after n k es)) (λ h. cycle_refutes es (cycle h) x), λ c. so_false (is_stable es (after n k es)) (λ h. cycle_refutes es c (solved h)), cycle_refutes es)
   where
-    solved : isStable es (after n k es) ≡ true → Feasible es
-    solved h = (at (after n k es), stable-solution es (after n k es) h)
+    solved : is_stable es (after n k es) ≡ true → Feasible es
+    solved h = (at (after n k es), stable_solution es (after n k es) h)
 
-    cycle : isStable es (after n k es) ≡ false → NegativeCycle es
-    cycle = unstable-cycle n es within vs among k b
+    cycle : is_stable es (after n k es) ≡ false → NegativeCycle es
+    cycle = unstable_cycle n es within vs among k b
 
-pub bounded-among : Bounded-among
-bounded-among n k w vs es within among f h v i has = by-walk (walk-to n es within k v i)
+pub bounded_among : BoundedAmong
+bounded_among n k w vs es within among f h v i has = by_walk (walk_to n es within k v i)
   where
-    by-walk : WalkTo n es within (after n k es) v → neg_ℤ (pos (pred (length vs) * w)) ≤ℤ at (after n k es) v
-    by-walk (p, u, y, q) = by-simple (simplify es v p u y)
+    by_walk : WalkTo n es within (after n k es) v → neg_ℤ (pos (pred (length vs) * w)) ≤ℤ at (after n k es) v
+    by_walk (p, u, y, q) = by_simple (simplify es v p u y)
       where
-        by-simple : NegativeCycle es ⊎ Simple es v p u → neg_ℤ (pos (pred (length vs) * w)) ≤ℤ at (after n k es) v
-        by-simple (inl c) = absurd (cycle-refutes es c f)
-        by-simple (inr s) =
-            let short : suc (length s.0) ≤ length vs = simple-short vs es among v s.0 u has s.1 s.2 in
-            let a : neg_ℤ (pos (length s.0 * w)) ≤ℤ total s.0 = walk-weight es w h v s.0 u s.1 in
+        by_simple : NegativeCycle es ⊎ Simple es v p u → neg_ℤ (pos (pred (length vs) * w)) ≤ℤ at (after n k es) v
+        by_simple (inl c) = absurd (cycle_refutes es c f)
+        by_simple (inr s) =
+            let short : suc (length s.0) ≤ length vs = simple_short vs es among v s.0 u has s.1 s.2 in
+            let a : neg_ℤ (pos (length s.0 * w)) ≤ℤ total s.0 = walk_weight es w h v s.0 u s.1 in
             let m : length s.0 ≤ pred (length vs) = omega arith in
             let o : length s.0 * w ≤ pred (length vs) * w = mul-le-mul_right w m in
             let c : total s.0 ≤ℤ total p = s.3 in

@@ -6,7 +6,7 @@ use Rattle.std.specs.List.{ContainsAt as Has, AllByRecursion as All}
 use Rattle.std.proofs.lemmas.Int.{ints}
 use Rattle.std.proofs.ByRecursion.{all_has_itself, All-weaker}
 use Rattle.graph.specs.declared.Edge.{Edge}
-use Rattle.graph.specs.Graph.{Within, Solution, at, through, lowers, relaxed, round, rounds, zeros, isStable}
+use Rattle.graph.specs.Graph.{Within, Solution, at, through, lowers, relaxed, round, rounds, zeros, is_stable}
 use Rattle.graph.specs.Claims.{Early}
 
 -- a write changes one vertex
@@ -14,15 +14,15 @@ at_set : (d : List ℤ) (t v : ℕ) (x : ℤ) → t < length d → ((v ≡ t) ×
 at_set d t v x h = elim (ℕ_discrete v t) [ yes e ↦ inl (e, subst (λ (i : ℕ). at (set d t x) i ≡ x) (sym e) (get_or-set_same d t x (pos 0) h)) | no f ↦ inr (f, get_or-set_other d t v x (pos 0) f) ]
 
 -- an edge lowers its end, or holds already
-pub relaxed-cases : (e : Edge) (d : List ℤ) → ((through e d <ℤ at d e.to) × (relaxed e d ≡ set d e.to (through e d))) ⊎ ((at d e.to ≤ℤ through e d) × (relaxed e d ≡ d))
-relaxed-cases e d = go (lowers e d) refl
+pub relaxed_cases : (e : Edge) (d : List ℤ) → ((through e d <ℤ at d e.to) × (relaxed e d ≡ set d e.to (through e d))) ⊎ ((at d e.to ≤ℤ through e d) × (relaxed e d ≡ d))
+relaxed_cases e d = go (lowers e d) refl
   where
     go : (b : Bool) → lowers e d ≡ b → ((through e d <ℤ at d e.to) × (relaxed e d ≡ set d e.to (through e d))) ⊎ ((at d e.to ≤ℤ through e d) × (relaxed e d ≡ d))
     go true q = inl (grind (arith, ints), ap (λ (c : Bool). cond c (set d e.to (through e d)) d) q)
     go false q = inr (grind (arith, ints), ap (λ (c : Bool). cond c (set d e.to (through e d)) d) q)
 
-pub relaxed-length : (e : Edge) (d : List ℤ) → length (relaxed e d) ≡ length d
-relaxed-length e d = elim (relaxed-cases e d) [ inl q ↦ ap length q.1 ∙ length-set d e.to (through e d) | inr q ↦ ap length q.1 ]
+pub relaxed_length : (e : Edge) (d : List ℤ) → length (relaxed e d) ≡ length d
+relaxed_length e d = elim (relaxed_cases e d) [ inl q ↦ ap length q.1 ∙ length-set d e.to (through e d) | inr q ↦ ap length q.1 ]
 
 -- the distances r have v lowered along e, or as it was in d
 abbrev pub Lowered : Edge → List ℤ → ℕ → List ℤ → Type 0
@@ -31,95 +31,95 @@ Lowered e d v r = (v ≡ e.to) × (through e d <ℤ at d e.to) × (at r v ≡ th
 abbrev pub Kept : Edge → List ℤ → ℕ → List ℤ → Type 0
 Kept e d v r = (at r v ≡ at d v) × (v ≡ e.to → at d v ≤ℤ through e d)
 
-pub relaxed-at : (e : Edge) (d : List ℤ) (v : ℕ) → e.to < length d → Lowered e d v (relaxed e d) ⊎ Kept e d v (relaxed e d)
-relaxed-at e d v h = elim (relaxed-cases e d) [ inl q ↦ subst (λ (r : List ℤ). Lowered e d v r ⊎ Kept e d v r) (sym q.1) (written q.0) | inr q ↦ subst (λ (r : List ℤ). Lowered e d v r ⊎ Kept e d v r) (sym q.1) (inr (refl, λ s. subst (λ (i : ℕ). at d i ≤ℤ through e d) (sym s) q.0)) ]
+pub relaxed_at : (e : Edge) (d : List ℤ) (v : ℕ) → e.to < length d → Lowered e d v (relaxed e d) ⊎ Kept e d v (relaxed e d)
+relaxed_at e d v h = elim (relaxed_cases e d) [ inl q ↦ subst (λ (r : List ℤ). Lowered e d v r ⊎ Kept e d v r) (sym q.1) (written q.0) | inr q ↦ subst (λ (r : List ℤ). Lowered e d v r ⊎ Kept e d v r) (sym q.1) (inr (refl, λ s. subst (λ (i : ℕ). at d i ≤ℤ through e d) (sym s) q.0)) ]
   where
     written : through e d <ℤ at d e.to → Lowered e d v (set d e.to (through e d)) ⊎ Kept e d v (set d e.to (through e d))
     written lt = elim (at_set d e.to v (through e d) h) [ inl s ↦ inl (s.0, lt, s.1) | inr s ↦ inr (s.1, λ y. absurd (s.0 y)) ]
 
-pub relaxed-le : (e : Edge) (d : List ℤ) (v : ℕ) → e.to < length d → at (relaxed e d) v ≤ℤ at d v
-relaxed-le e d v h = elim (relaxed-at e d v h) [ inl q ↦ (let k : at d v ≡ at d e.to = ap (at d) q.0 in omega (arith, ints)) | inr q ↦ omega (arith, ints) ]
+pub relaxed_le : (e : Edge) (d : List ℤ) (v : ℕ) → e.to < length d → at (relaxed e d) v ≤ℤ at d v
+relaxed_le e d v h = elim (relaxed_at e d v h) [ inl q ↦ (let k : at d v ≡ at d e.to = ap (at d) q.0 in omega (arith, ints)) | inr q ↦ omega (arith, ints) ]
 
-relaxed-end : (e : Edge) (d : List ℤ) → e.to < length d → at (relaxed e d) e.to ≤ℤ through e d
-relaxed-end e d h = elim (relaxed-at e d e.to h) [ inl q ↦ omega (arith, ints) | inr q ↦ (let k : at d e.to ≤ℤ through e d = q.1 refl in omega (arith, ints)) ]
+relaxed_end : (e : Edge) (d : List ℤ) → e.to < length d → at (relaxed e d) e.to ≤ℤ through e d
+relaxed_end e d h = elim (relaxed_at e d e.to h) [ inl q ↦ omega (arith, ints) | inr q ↦ (let k : at d e.to ≤ℤ through e d = q.1 refl in omega (arith, ints)) ]
 
-pub round-length : (es : List Edge) (d : List ℤ) → length (round es d) ≡ length d
-round-length [] d = refl
-round-length (e ∷ es) d = round-length es (relaxed e d) ∙ relaxed-length e d
+pub round_length : (es : List Edge) (d : List ℤ) → length (round es d) ≡ length d
+round_length [] d = refl
+round_length (e ∷ es) d = round_length es (relaxed e d) ∙ relaxed_length e d
 
-pub rounds-length : (k : ℕ) (es : List Edge) (d : List ℤ) → length (rounds k es d) ≡ length d
-rounds-length zero es d = refl
-rounds-length (suc k) es d = rounds-length k es (round es d) ∙ round-length es d
+pub rounds_length : (k : ℕ) (es : List Edge) (d : List ℤ) → length (rounds k es d) ≡ length d
+rounds_length zero es d = refl
+rounds_length (suc k) es d = rounds_length k es (round es d) ∙ round_length es d
 
-pub round-le : (n : ℕ) (es : List Edge) (d : List ℤ) (v : ℕ) → length d ≡ n → Within n es → at (round es d) v ≤ℤ at d v
-round-le n [] d v l w = ≤ℤ_refl (at d v)
-round-le n (e ∷ es) d v l w =
-    let a : at (round es (relaxed e d)) v ≤ℤ at (relaxed e d) v = round-le n es (relaxed e d) v (relaxed-length e d ∙ l) w.1 in
-    let b : at (relaxed e d) v ≤ℤ at d v = relaxed-le e d v (omega (arith, l, w.0.0)) in
+pub round_le : (n : ℕ) (es : List Edge) (d : List ℤ) (v : ℕ) → length d ≡ n → Within n es → at (round es d) v ≤ℤ at d v
+round_le n [] d v l w = ≤ℤ_refl (at d v)
+round_le n (e ∷ es) d v l w =
+    let a : at (round es (relaxed e d)) v ≤ℤ at (relaxed e d) v = round_le n es (relaxed e d) v (relaxed_length e d ∙ l) w.1 in
+    let b : at (relaxed e d) v ≤ℤ at d v = relaxed_le e d v (omega (arith, l, w.0.0)) in
     omega (arith, ints)
 
 -- after a round every edge has been made use of
-pub round-ends : (n : ℕ) (es : List Edge) (d : List ℤ) → length d ≡ n → Within n es → All (λ e. at (round es d) e.to ≤ℤ through e d) es
-round-ends n [] d l w = tt
-round-ends n (e ∷ es) d l w = (first, All-weaker (λ f. at (round es (relaxed e d)) f.to ≤ℤ through f (relaxed e d)) (λ f. at (round es (relaxed e d)) f.to ≤ℤ through f d) weaker es (round-ends n es (relaxed e d) (relaxed-length e d ∙ l) w.1))
+pub round_ends : (n : ℕ) (es : List Edge) (d : List ℤ) → length d ≡ n → Within n es → All (λ e. at (round es d) e.to ≤ℤ through e d) es
+round_ends n [] d l w = tt
+round_ends n (e ∷ es) d l w = (first, All-weaker (λ f. at (round es (relaxed e d)) f.to ≤ℤ through f (relaxed e d)) (λ f. at (round es (relaxed e d)) f.to ≤ℤ through f d) weaker es (round_ends n es (relaxed e d) (relaxed_length e d ∙ l) w.1))
   where
     inside : e.to < length d
     inside = omega (arith, l, w.0.0)
 
     first : at (round es (relaxed e d)) e.to ≤ℤ through e d
     first =
-        let a : at (round es (relaxed e d)) e.to ≤ℤ at (relaxed e d) e.to = round-le n es (relaxed e d) e.to (relaxed-length e d ∙ l) w.1 in
-        let b : at (relaxed e d) e.to ≤ℤ through e d = relaxed-end e d inside in
+        let a : at (round es (relaxed e d)) e.to ≤ℤ at (relaxed e d) e.to = round_le n es (relaxed e d) e.to (relaxed_length e d ∙ l) w.1 in
+        let b : at (relaxed e d) e.to ≤ℤ through e d = relaxed_end e d inside in
         omega (arith, ints)
 
     weaker : (f : Edge) → at (round es (relaxed e d)) f.to ≤ℤ through f (relaxed e d) → at (round es (relaxed e d)) f.to ≤ℤ through f d
-    weaker f h = let b : at (relaxed e d) f.from ≤ℤ at d f.from = relaxed-le e d f.from inside in omega (arith, ints)
+    weaker f h = let b : at (relaxed e d) f.from ≤ℤ at d f.from = relaxed_le e d f.from inside in omega (arith, ints)
 
 -- what every edge keeps, any number of rounds keeps
 round_keeps : (P : List ℤ → Type 0) (es : List Edge) → All (λ e. (d : List ℤ) → P d → P (relaxed e d)) es → (d : List ℤ) → P d → P (round es d)
 round_keeps P [] k d h = h
 round_keeps P (e ∷ es) k d h = round_keeps P es k.1 (relaxed e d) (k.0 d h)
 
-pub rounds-keep : (P : List ℤ → Type 0) (es : List Edge) → ((e : Edge) → Has es e → (d : List ℤ) → P d → P (relaxed e d)) → (k : ℕ) (d : List ℤ) → P d → P (rounds k es d)
-rounds-keep P es f zero d h = h
-rounds-keep P es f (suc k) d h = rounds-keep P es f k (round es d) (round_keeps P es (All-weaker (Has es) (λ e. (d : List ℤ) → P d → P (relaxed e d)) f es (all_has_itself es)) d h)
+pub rounds_keep : (P : List ℤ → Type 0) (es : List Edge) → ((e : Edge) → Has es e → (d : List ℤ) → P d → P (relaxed e d)) → (k : ℕ) (d : List ℤ) → P d → P (rounds k es d)
+rounds_keep P es f zero d h = h
+rounds_keep P es f (suc k) d h = rounds_keep P es f k (round es d) (round_keeps P es (All-weaker (Has es) (λ e. (d : List ℤ) → P d → P (relaxed e d)) f es (all_has_itself es)) d h)
 
-pub zeros-at : (n v : ℕ) → at (zeros n) v ≡ pos 0
-zeros-at zero v = refl
-zeros-at (suc n) zero = refl
-zeros-at (suc n) (suc v) = zeros-at n v
+pub zeros_at : (n v : ℕ) → at (zeros n) v ≡ pos 0
+zeros_at zero v = refl
+zeros_at (suc n) zero = refl
+zeros_at (suc n) (suc v) = zeros_at n v
 
-pub zeros-length : (n : ℕ) → length (zeros n) ≡ n
-zeros-length zero = refl
-zeros-length (suc n) = ap suc (zeros-length n)
+pub zeros_length : (n : ℕ) → length (zeros n) ≡ n
+zeros_length zero = refl
+zeros_length (suc n) = ap suc (zeros_length n)
 
-stable-parts : (b c : Bool) → (not b && c) ≡ true → (b ≡ false) × (c ≡ true)
-stable-parts true c h = (sym h, absurd (let z : ◌≡◌ {A = ℕ} 0 1 = cc in omega arith))
-stable-parts false c h = (refl, h)
+stable_parts : (b c : Bool) → (not b && c) ≡ true → (b ≡ false) × (c ≡ true)
+stable_parts true c h = (sym h, absurd (let z : ◌≡◌ {A = ℕ} 0 1 = cc in omega arith))
+stable_parts false c h = (refl, h)
 
-unstable-part : (b c : Bool) → (not b && c) ≡ false → (b ≡ true) ⊎ (c ≡ false)
-unstable-part true c h = inl refl
-unstable-part false c h = inr h
+unstable_part : (b c : Bool) → (not b && c) ≡ false → (b ≡ true) ⊎ (c ≡ false)
+unstable_part true c h = inl refl
+unstable_part false c h = inr h
 
-pub stable-solution : (es : List Edge) (d : List ℤ) → isStable es d ≡ true → Solution es (at d)
-stable-solution [] d h = tt
-stable-solution (e ∷ es) d h =
-    let q : (lowers e d ≡ false) × (isStable es d ≡ true) = stable-parts (lowers e d) (isStable es d) h in
+pub stable_solution : (es : List Edge) (d : List ℤ) → is_stable es d ≡ true → Solution es (at d)
+stable_solution [] d h = tt
+stable_solution (e ∷ es) d h =
+    let q : (lowers e d ≡ false) × (is_stable es d ≡ true) = stable_parts (lowers e d) (is_stable es d) h in
     let s : lowers e d ≡ false = q.0 in
-    (grind (arith, ints), stable-solution es d q.1)
+    (grind (arith, ints), stable_solution es d q.1)
 
 -- distances that are not stable have an edge that lowers its end
-pub unstable-edge : (es fs : List Edge) (d : List ℤ) → All (Has es) fs → isStable fs d ≡ false → (e : Edge) × Has es e × (through e d <ℤ at d e.to)
-unstable-edge es [] d a h = absurd (let z : ◌≡◌ {A = ℕ} 0 1 = cc in omega arith)
-unstable-edge es (e ∷ fs) d a h = elim (unstable-part (lowers e d) (isStable fs d) h) [ inl q ↦ (e, a.0, grind (arith, ints)) | inr q ↦ unstable-edge es fs d a.1 q ]
+pub unstable_edge : (es fs : List Edge) (d : List ℤ) → All (Has es) fs → is_stable fs d ≡ false → (e : Edge) × Has es e × (through e d <ℤ at d e.to)
+unstable_edge es [] d a h = absurd (let z : ◌≡◌ {A = ℕ} 0 1 = cc in omega arith)
+unstable_edge es (e ∷ fs) d a h = elim (unstable_part (lowers e d) (is_stable fs d) h) [ inl q ↦ (e, a.0, grind (arith, ints)) | inr q ↦ unstable_edge es fs d a.1 q ]
 
-stable-round : (es : List Edge) (d : List ℤ) → isStable es d ≡ true → round es d ≡ d
-stable-round [] d h = refl
-stable-round (e ∷ es) d h =
-    let q : (lowers e d ≡ false) × (isStable es d ≡ true) = stable-parts (lowers e d) (isStable es d) h in
+stable_round : (es : List Edge) (d : List ℤ) → is_stable es d ≡ true → round es d ≡ d
+stable_round [] d h = refl
+stable_round (e ∷ es) d h =
+    let q : (lowers e d ≡ false) × (is_stable es d ≡ true) = stable_parts (lowers e d) (is_stable es d) h in
     let b : lowers e d ≡ false = q.0 in
-    rw b (stable-round es d q.1)
+    rw b (stable_round es d q.1)
 
 pub early : Early
 early zero es d h = refl
-early (suc k) es d h = ap (λ (r : List ℤ). rounds k es r) (stable-round es d h) ∙ early k es d h
+early (suc k) es d h = ap (λ (r : List ℤ). rounds k es r) (stable_round es d h) ∙ early k es d h

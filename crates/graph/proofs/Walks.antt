@@ -15,18 +15,18 @@ abbrev pub vertices : ℕ → List Edge → List ℕ
 vertices v [] = v ∷ []
 vertices v (e ∷ p) = v ∷ vertices e.from p
 
-vertices-length : (v : ℕ) (p : List Edge) → length (vertices v p) ≡ suc (length p)
-vertices-length v [] = refl
-vertices-length v (e ∷ p) = ap suc (vertices-length e.from p)
+vertices_length : (v : ℕ) (p : List Edge) → length (vertices v p) ≡ suc (length p)
+vertices_length v [] = refl
+vertices_length v (e ∷ p) = ap suc (vertices_length e.from p)
 
 module _ (vs : List ℕ) (es : List Edge) (among : Among vs es) where
-  vertices-among : (v : ℕ) (p : List Edge) (u : ℕ) → Has vs v → Walk es v p u → All (Has vs) (vertices v p)
-  vertices-among v [] u h w = (h, tt)
-  vertices-among v (e ∷ p) u h w = (h, vertices-among e.from p u (all-has (λ e. Has vs e.to × Has vs e.from) es e among w.0).1 w.2)
+  vertices_among : (v : ℕ) (p : List Edge) (u : ℕ) → Has vs v → Walk es v p u → All (Has vs) (vertices v p)
+  vertices_among v [] u h w = (h, tt)
+  vertices_among v (e ∷ p) u h w = (h, vertices_among e.from p u (all-has (λ e. Has vs e.to × Has vs e.from) es e among w.0).1 w.2)
 
   -- a walk that meets no vertex twice is short
-  pub simple-short : (v : ℕ) (p : List Edge) (u : ℕ) → Has vs v → Walk es v p u → Distinct (vertices v p) → suc (length p) ≤ length vs
-  simple-short v p u h w a = omega (arith, vertices-length v p, pigeonhole vs (vertices v p) a (vertices-among v p u h w))
+  pub simple_short : (v : ℕ) (p : List Edge) (u : ℕ) → Has vs v → Walk es v p u → Distinct (vertices v p) → suc (length p) ≤ length vs
+  simple_short v p u h w a = omega (arith, vertices_length v p, pigeonhole vs (vertices v p) a (vertices_among v p u h w))
 
 -- a walk q from u to x, cut at a vertex v that it meets
 abbrev Cut : List Edge → ℕ → ℕ → List Edge → ℕ → Type 0
@@ -62,23 +62,23 @@ module _ (es : List Edge) where
       longer (inr s) = closed s (cut v e.from s.0 u s.1 s.2)
 
   -- a solution along a walk
-  walk-holds : (x : ℕ → ℤ) → Solution es x → (v : ℕ) (p : List Edge) (u : ℕ) → Walk es v p u → x v ≤ℤ (x u +ℤ total p)
-  walk-holds x s v [] u w = let a : x v ≡ x u = ap x w in omega (arith, ints)
-  walk-holds x s v (e ∷ p) u w =
+  walk_holds : (x : ℕ → ℤ) → Solution es x → (v : ℕ) (p : List Edge) (u : ℕ) → Walk es v p u → x v ≤ℤ (x u +ℤ total p)
+  walk_holds x s v [] u w = let a : x v ≡ x u = ap x w in omega (arith, ints)
+  walk_holds x s v (e ∷ p) u w =
       let a : x e.to ≤ℤ (x e.from +ℤ e.weight) = all-has (EdgeHolds x) es e s w.0 in
-      let b : x e.from ≤ℤ (x u +ℤ total p) = walk-holds x s e.from p u w.2 in
+      let b : x e.from ≤ℤ (x u +ℤ total p) = walk_holds x s e.from p u w.2 in
       let c : x e.to ≡ x v = ap x w.1 in
       omega (arith, ints)
 
-  pub cycle-refutes : NegativeCycle es → Feasible es → ⊥
-  cycle-refutes c f =
-      let a : f.0 c.0 ≤ℤ (f.0 c.0 +ℤ total c.1) = walk-holds f.0 f.1 c.0 c.1 c.0 c.2 in
+  pub cycle_refutes : NegativeCycle es → Feasible es → ⊥
+  cycle_refutes c f =
+      let a : f.0 c.0 ≤ℤ (f.0 c.0 +ℤ total c.1) = walk_holds f.0 f.1 c.0 c.1 c.0 c.2 in
       let b : total c.1 <ℤ pos 0 = c.3 in
       omega (arith, ints)
 
-  pub walk-weight : (w : ℕ) → Heavier w es → (v : ℕ) (p : List Edge) (u : ℕ) → Walk es v p u → neg_ℤ (pos (length p * w)) ≤ℤ total p
-  walk-weight w h v [] u k = omega (arith, ints)
-  walk-weight w h v (e ∷ p) u k =
+  pub walk_weight : (w : ℕ) → Heavier w es → (v : ℕ) (p : List Edge) (u : ℕ) → Walk es v p u → neg_ℤ (pos (length p * w)) ≤ℤ total p
+  walk_weight w h v [] u k = omega (arith, ints)
+  walk_weight w h v (e ∷ p) u k =
       let a : neg_ℤ (pos w) ≤ℤ e.weight = all-has (λ e. neg_ℤ (pos w) ≤ℤ e.weight) es e h k.0 in
-      let b : neg_ℤ (pos (length p * w)) ≤ℤ total p = walk-weight w h e.from p u k.2 in
+      let b : neg_ℤ (pos (length p * w)) ≤ℤ total p = walk_weight w h e.from p u k.2 in
       omega (arith, ints)

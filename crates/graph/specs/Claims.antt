@@ -2,7 +2,7 @@
 use Rattle.std.specs.Prelude.{◌≡◌, ℕ, suc, pred, ◌*◌, ◌<◌, ◌≤◌, true, false, List, length, ℤ, pos, neg_ℤ, ◌≤ℤ◌}
 use Rattle.std.specs.List.{ContainsAt as Has, AllByRecursion as All}
 use Rattle.graph.specs.declared.Edge.{Edge}
-use Rattle.graph.specs.Graph.{Within, Solution, Feasible, NegativeCycle, at, rounds, zeros, isStable}
+use Rattle.graph.specs.Graph.{Within, Solution, Feasible, NegativeCycle, at, rounds, zeros, is_stable}
 
 -- the distances of n vertices after k rounds from 0
 abbrev pub after : ℕ → ℕ → List Edge → List ℤ
@@ -18,16 +18,16 @@ LowSolution n es x = Solution es x × Below n x (λ _. pos 0)
 
 -- stable distances are such a solution, and the greatest
 abbrev pub Greatest : Type 0
-Greatest = (n k : ℕ) (es : List Edge) → Within n es → isStable es (after n k es) ≡ true →
+Greatest = (n k : ℕ) (es : List Edge) → Within n es → is_stable es (after n k es) ≡ true →
     LowSolution n es (at (after n k es)) × ((x : ℕ → ℤ) → LowSolution n es x → Below n x (at (after n k es)))
 
 -- k rounds decide: stable distances mean a solution, others a negative cycle, and no graph has both
 abbrev pub Decided : ℕ → ℕ → List Edge → Type 0
 Decided n k es =
-    (isStable es (after n k es) ≡ true → Feasible es)
-    × (isStable es (after n k es) ≡ false → NegativeCycle es)
-    × (Feasible es → isStable es (after n k es) ≡ true)
-    × (NegativeCycle es → isStable es (after n k es) ≡ false)
+    (is_stable es (after n k es) ≡ true → Feasible es)
+    × (is_stable es (after n k es) ≡ false → NegativeCycle es)
+    × (Feasible es → is_stable es (after n k es) ≡ true)
+    × (NegativeCycle es → is_stable es (after n k es) ≡ false)
     × (NegativeCycle es → Feasible es → ⊥)
 
 -- every edge joins two vertices of the list vs
@@ -35,18 +35,18 @@ abbrev pub Among : List ℕ → List Edge → Type 0
 Among vs es = All (λ e. Has vs e.to × Has vs e.from) es
 
 -- as many rounds as vs is long, less one, decide, however many vertices without edges there are
-abbrev pub Exact-among : Type 0
-Exact-among = (n k : ℕ) (vs : List ℕ) (es : List Edge) → Within n es → Among vs es → length vs ≤ suc k → Decided n k es
+abbrev pub ExactAmong : Type 0
+ExactAmong = (n k : ℕ) (vs : List ℕ) (es : List Edge) → Within n es → Among vs es → length vs ≤ suc k → Decided n k es
 
 -- no edge weighs less than -w
 abbrev pub Heavier : ℕ → List Edge → Type 0
 Heavier w es = All (λ e. neg_ℤ (pos w) ≤ℤ e.weight) es
 
 -- where there is a solution, no vertex of vs ever falls below -(length vs - 1) * w
-abbrev pub Bounded-among : Type 0
-Bounded-among = (n k w : ℕ) (vs : List ℕ) (es : List Edge) → Within n es → Among vs es → Feasible es → Heavier w es →
+abbrev pub BoundedAmong : Type 0
+BoundedAmong = (n k w : ℕ) (vs : List ℕ) (es : List Edge) → Within n es → Among vs es → Feasible es → Heavier w es →
     (v : ℕ) → v < n → Has vs v → neg_ℤ (pos (pred (length vs) * w)) ≤ℤ at (after n k es) v
 
 -- no round changes stable distances, so a loop may end early
 abbrev pub Early : Type 0
-Early = (k : ℕ) (es : List Edge) (d : List ℤ) → isStable es d ≡ true → rounds k es d ≡ d
+Early = (k : ℕ) (es : List Edge) (d : List ℤ) → is_stable es d ≡ true → rounds k es d ≡ d

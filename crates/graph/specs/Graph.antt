@@ -62,6 +62,6 @@ zeros zero = []
 zeros (suc n) = pos 0 ∷ zeros n
 
 -- no edge lowers its end
-abbrev pub isStable : List Edge → List ℤ → Bool
-isStable [] d = true
-isStable (e ∷ es) d = not (lowers e d) && isStable es d
+abbrev pub is_stable : List Edge → List ℤ → Bool
+is_stable [] d = true
+is_stable (e ∷ es) d = not (lowers e d) && is_stable es d

@@ -6,41 +6,41 @@ use Rattle.sheet.specs.declared.fault.Cause.TheVariants.{CutShort}
 use Rattle.sheet.specs.declared.fault.Fault.{Fault}
 use Rattle.sheet.specs.declared.row.Row.{Row}
 use Rattle.sheet.specs.declared.term.Term.{Term}
-use Rattle.sheet.specs.Causes.{faultIn, readerLetter}
+use Rattle.sheet.specs.Causes.{fault_in, reader_letter}
 use Rattle.sheet.specs.Fields.{FieldValue}
 use Rattle.sheet.specs.Parsing.{parse, remaining}
 use Rattle.engine.specs.Arrangements.{Before}
-use Rattle.engine.specs.States.{State, newState}
+use Rattle.engine.specs.States.{State, new_state}
 use Rattle.parts.specs.declared.note_sheet.Refusal.{Refusal}
 use Rattle.parts.specs.First.{FirstCompletion}
-use Rattle.parts.specs.Noting.{RefusedAt, Walk, afterField, fieldAnswer, frontAnswer, more, none}
+use Rattle.parts.specs.Noting.{RefusedAt, Walk, after_field, field_answer, front_answer, more, none}
 
 -- fields noted from the state s on, where `left` is left, up to the state t, where `right` is left
 data Onward (letter : ℕ) : State → List ℕ → State → List ℕ → Type 0 where
   here : {s : State} {left : List ℕ} → Onward letter s left s left
-  on : {s t : State} {left right : List ℕ} (f : FieldValue) → parse left ≡ Ok f → fieldAnswer letter s f ≡ Ok tt → Onward letter (afterField s f) (remaining left) t right → Onward letter s left t right
+  on : {s t : State} {left right : List ℕ} (f : FieldValue) → parse left ≡ Ok f → field_answer letter s f ≡ Ok tt → Onward letter (after_field s f) (remaining left) t right → Onward letter s left t right
 
 join : {letter : ℕ} {s t u : State} {left right end : List ℕ} → Onward letter s left t right → Onward letter t right u end → Onward letter s left u end
 join here w = w
 join (on f read ok v) w = on f read ok (join v w)
 
-from_start : {letter : ℕ} {sheet left : List ℕ} {s : State} → Walk letter sheet s left → Onward letter newState sheet s left
+from_start : {letter : ℕ} {sheet left : List ℕ} {s : State} → Walk letter sheet s left → Onward letter new_state sheet s left
 from_start none = here
 from_start (more {f = f} w read ok) = join (from_start w) (on f read ok here)
 
 -- what is left is refused, or nothing is left
 abbrev Stops : ℕ → State → List ℕ → Type 0
-Stops letter s left = (e : Fault) × (frontAnswer letter s (parse left) ≡ Err e)
+Stops letter s left = (e : Fault) × (front_answer letter s (parse left) ≡ Err e)
 
-goes : (letter : ℕ) (s : State) (left : List ℕ) (f : FieldValue) → parse left ≡ Ok f → fieldAnswer letter s f ≡ Ok tt → Stops letter s left → ⊥
+goes : (letter : ℕ) (s : State) (left : List ℕ) (f : FieldValue) → parse left ≡ Ok f → field_answer letter s f ≡ Ok tt → Stops letter s left → ⊥
 goes letter s left f read ok stop =
     let e = stop.0 in
-    let q : frontAnswer letter s (Ok f) ≡ Err e = ap (frontAnswer letter s) (sym read) ∙ stop.1 in
+    let q : front_answer letter s (Ok f) ≡ Err e = ap (front_answer letter s) (sym read) ∙ stop.1 in
     let both : ◌≡◌ {A = Result (Unit {0}) Fault} (Ok tt) (Err e) = sym ok ∙ q in
     let z : ◌≡◌ {A = ℕ} 0 1 = cc in omega arith
 
-same-field : (r : Result FieldValue Fault) (f h : FieldValue) → r ≡ Ok f → r ≡ Ok h → f ≡ h
-same-field r f h p q = cc
+same_field : (r : Result FieldValue Fault) (f h : FieldValue) → r ≡ Ok f → r ≡ Ok h → f ≡ h
+same_field r f h p q = cc
 
 -- two ways from one start that stop come to one end
 one_end : {letter : ℕ} {q s t : State} {from left right : List ℕ} → Onward letter q from s left → Onward letter q from t right → Stops letter s left → Stops letter t right → (s ≡ t) × (left ≡ right)
@@ -48,30 +48,30 @@ one_end here here stop halt = (refl, refl)
 one_end {letter} {q} {from = from} here (on f read ok w) stop halt = absurd (goes letter q from f read ok stop)
 one_end {letter} {q} {from = from} (on f read ok w) here stop halt = absurd (goes letter q from f read ok halt)
 one_end {letter} {q} {s} {t} {from} {left} {right} (on f read ok v) (on h read' ok' w) stop halt =
-    one_end v (subst (λ x. Onward letter (afterField q x) (remaining from) t right) (sym (same-field (parse from) f h read read')) w) stop halt
+    one_end v (subst (λ x. Onward letter (after_field q x) (remaining from) t right) (sym (same_field (parse from) f h read read')) w) stop halt
 
 module _ (letter : ℕ) (sheet : List ℕ) where
-  at-end : (s : State) → Stops letter s []
-  at-end s = (faultIn readerLetter CutShort, refl)
+  at_end : (s : State) → Stops letter s []
+  at_end s = (fault_in reader_letter CutShort, refl)
 
   one_place : (p q : ℕ) → p < length sheet → q < length sheet → drop p sheet ≡ drop q sheet → p ≡ q
   one_place p q a b e = omega (arith, length-drop p sheet, length-drop q sheet, ap length e)
 
-  not-at-end : (p : ℕ) → p < length sheet → drop p sheet ≡ [] → ⊥
-  not-at-end p a e = let none_left : length (drop p sheet) ≡ 0 = ap length e in omega (arith, length-drop p sheet)
+  not_at_end : (p : ℕ) → p < length sheet → drop p sheet ≡ [] → ⊥
+  not_at_end p a e = let none_left : length (drop p sheet) ≡ 0 = ap length e in omega (arith, length-drop p sheet)
 
-  pub whole-once : (s t : State) → Walk letter sheet s [] → Walk letter sheet t [] → s ≡ t
-  whole-once s t x y = (one_end (from_start x) (from_start y) (at-end s) (at-end t)).0
+  pub whole_once : (s t : State) → Walk letter sheet s [] → Walk letter sheet t [] → s ≡ t
+  whole_once s t x y = (one_end (from_start x) (from_start y) (at_end s) (at_end t)).0
 
   -- a sheet that is noted whole is not refused
-  pub not-refused : (s t : State) (e : Refusal) → Walk letter sheet s [] → RefusedAt letter sheet t e → ⊥
-  not-refused s t e x y = not-at-end e.place y.within (sym (one_end (from_start x) (from_start y.walk) (at-end s) (e.fault, y.stops)).1)
+  pub not_refused : (s t : State) (e : Refusal) → Walk letter sheet s [] → RefusedAt letter sheet t e → ⊥
+  not_refused s t e x y = not_at_end e.place y.within (sym (one_end (from_start x) (from_start y.walk) (at_end s) (e.fault, y.stops)).1)
 
-  pub same-refusal : (a b : Refusal) (s t : State) → RefusedAt letter sheet s a → RefusedAt letter sheet t b → a ≡ b
-  same-refusal a b s t x y =
+  pub same_refusal : (a b : Refusal) (s t : State) → RefusedAt letter sheet s a → RefusedAt letter sheet t b → a ≡ b
+  same_refusal a b s t x y =
       let w = one_end (from_start x.walk) (from_start y.walk) (a.fault, x.stops) (b.fault, y.stops) in
       let place : a.place ≡ b.place = one_place a.place b.place x.within y.within w.1 in
-      let front : frontAnswer letter x.held (parse (drop a.place sheet)) ≡ frontAnswer letter y.held (parse (drop b.place sheet)) = λ i. frontAnswer letter (w.0 i) (parse (w.1 i)) in
+      let front : front_answer letter x.held (parse (drop a.place sheet)) ≡ front_answer letter y.held (parse (drop b.place sheet)) = λ i. front_answer letter (w.0 i) (parse (w.1 i)) in
       let faults : ◌≡◌ {A = Result (Unit {0}) Fault} (Err a.fault) (Err b.fault) = sym x.stops ∙ front ∙ y.stops in
       let fault : a.fault ≡ b.fault = cc in
       λ i. record { fault = fault i; place = place i }
@@ -92,8 +92,8 @@ ordered (c ∷ cs) (d ∷ ds) e =
     (cases_order c d)
 
 -- there is only one first completion
-pub first-once : (rule : List Term → List Row → List ℕ → Type 0) (s : State) (cs ds : List ℕ) → FirstCompletion rule s cs → FirstCompletion rule s ds → cs ≡ ds
-first-once rule s cs ds x y =
+pub first_once : (rule : List Term → List Row → List ℕ → Type 0) (s : State) (cs ds : List ℕ) → FirstCompletion rule s cs → FirstCompletion rule s ds → cs ≡ ds
+first_once rule s cs ds x y =
     append_cancel_left s.codes cs ds
     (⊎_elim
     (λ e. e)

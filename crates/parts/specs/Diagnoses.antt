@@ -4,8 +4,8 @@ use Rattle.sheet.specs.declared.row.Row.{Row}
 use Rattle.sheet.specs.declared.term.Term.{Term}
 use Rattle.engine.specs.Dates.{Dated}
 use Rattle.engine.specs.Rows.{RowKind}
-use Rattle.engine.specs.States.{State, Completion, withCodes}
-use Rattle.engine.specs.Terms.{seatsOf}
+use Rattle.engine.specs.States.{State, Completion, with_codes}
+use Rattle.engine.specs.Terms.{seats_of}
 use Rattle.parts.specs.declared.diagnosis.Diagnosis.{Diagnosis}
 use Rattle.parts.specs.declared.diagnosis.Diagnosis.TheVariants.{Met, Unmet, Refused}
 use Rattle.parts.specs.First.{FirstCompletion}
@@ -17,10 +17,10 @@ module _ (rule : List Term → List Row → List ℕ → Type 0) (counts : RowKi
     pub noted : State
     pub walk : Walk letter sheet noted []
     pub bare : noted.codes ≡ []
-    pub listed : seats ≡ seatsOf noted.terms
+    pub listed : seats ≡ seats_of noted.terms
     pub first : FirstCompletion rule noted codes
-    pub dated : Dated rule (withCodes noted codes) counts picks dates
-    pub leaves : t ≡ withCodes noted codes
+    pub dated : Dated rule (with_codes noted codes) counts picks dates
+    pub leaves : t ≡ with_codes noted codes
 
   -- the whole sheet is noted, and no arrangement is allowed
   pub record UnmetBy : Type 0 where

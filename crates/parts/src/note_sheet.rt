@@ -1,7 +1,7 @@
 // Notes the fields of a sheet in an engine.
 ghost use Rattle.std.specs.Prelude.{◌≡◌, ◌+◌, ◌≤◌, [], ◌++◌, length, Err, vec_len, vec_capacity};
-ghost use Rattle.engine.specs.States.{newState};
-ghost use Rattle.parts.specs.Noting.{SheetNoted, afterField, fieldAnswer, hasRow, is_row, seatOf};
+ghost use Rattle.engine.specs.States.{new_state};
+ghost use Rattle.parts.specs.Noting.{SheetNoted, after_field, field_answer, row_stands, is_row, seat_of};
 ghost use Rattle.sheet.specs.Fields.{value_of};
 
 use engine::engine::Engine;
@@ -63,7 +63,7 @@ pub(crate) fn note_sheet<E: Engine>(
 // Makes the engine new again, and answers the refusal.
 fn refuse<E: Engine>(engine: &mut E, fault: Fault, place: usize) -> Result<(), Refusal>
     ensures answers { result ≡ Err (record { fault = fault; place = place }) }
-    ensures leaves { E.state engine.new ≡ newState }
+    ensures leaves { E.state engine.new ≡ new_state }
     ensures keeps { E.setting engine.new ≡ E.setting engine.old }
 {
     engine.renew();
@@ -72,9 +72,9 @@ fn refuse<E: Engine>(engine: &mut E, fault: Fault, place: usize) -> Result<(), R
 
 // Notes a field. `has_row` says whether a row was noted before: then no term may follow.
 fn note_field<E: Engine>(engine: &mut E, field: &Field<'_>, has_row: bool) -> Result<(), Fault>
-    requires { has_row ≡ hasRow (E.state engine.old) }
-    ensures answers { result ≡ fieldAnswer E.LETTER (E.state engine.old) (value_of field.now) }
-    ensures leaves { E.state engine.new ≡ afterField (E.state engine.old) (value_of field.now) }
+    requires { has_row ≡ row_stands (E.state engine.old) }
+    ensures answers { result ≡ field_answer E.LETTER (E.state engine.old) (value_of field.now) }
+    ensures leaves { E.state engine.new ≡ after_field (E.state engine.old) (value_of field.now) }
     ensures keeps { E.setting engine.new ≡ E.setting engine.old }
 {
     match *field {
@@ -91,8 +91,8 @@ fn note_field<E: Engine>(engine: &mut E, field: &Field<'_>, has_row: bool) -> Re
 
 // Adds the index `terms` to the seats, where the field is a dated term.
 fn list_seat(field: &Field<'_>, terms: u8, seats: &mut Vec<u8>)
-    requires { vec_len seats.old + length (seatOf terms (value_of field.now)) ≤ vec_capacity seats.old }
-    ensures items { seats.new.items ≡ seats.old.items ++ seatOf terms (value_of field.now) }
+    requires { vec_len seats.old + length (seat_of terms (value_of field.now)) ≤ vec_capacity seats.old }
+    ensures items { seats.new.items ≡ seats.old.items ++ seat_of terms (value_of field.now) }
     ensures capacity { vec_capacity seats.new ≡ vec_capacity seats.old }
 {
     if let Field::Term { term, .. } = field {

@@ -1,7 +1,7 @@
 // What the program prints of a sheet.
 ghost use Rattle.std.specs.Prelude.{◌≡◌, ◌≤◌, length, IfOk, string_bytes};
 ghost use Rattle.parts.specs.Diagnoses.{Diagnosed};
-ghost use Rattle.parts.specs.Lines.{Listable, OnlyReport, reportOf, seatLines};
+ghost use Rattle.parts.specs.Lines.{Listable, OnlyReport, report_of, seat_lines};
 
 use crate::diagnosis::{Diagnosis, diagnose};
 use crate::words::Seat;
@@ -25,7 +25,7 @@ pub(crate) fn report_sheet<E: Dating>(
 ) -> Result<Report, AllocError>
     ensures keeps { E.setting engine.new ≡ E.setting engine.old }
     ensures tells { IfOk result (λ p. Diagnosed (E.rule (E.setting engine.old)) E.counts (E.picks (E.setting engine.old)) E.LETTER sheet.now (E.state engine.new) p.diagnosis) }
-    ensures lists { IfOk result (λ p. string_bytes p.text ≡ reportOf p.diagnosis) }
+    ensures lists { IfOk result (λ p. string_bytes p.text ≡ report_of p.diagnosis) }
     ensures only { IfOk result (λ p. OnlyReport (E.rule (E.setting engine.old)) E.counts (E.picks (E.setting engine.old)) E.LETTER sheet.now (string_bytes p.text)) }
 {
     let seats = match Vec::with_capacity(heap, MAX_SEATS) {
@@ -46,7 +46,7 @@ pub(crate) fn report_sheet<E: Dating>(
 // The lines of a diagnosis.
 fn write_lines(heap: Global, diagnosis: &Diagnosis) -> Result<String, AllocError>
     requires { Listable diagnosis.now }
-    ensures { IfOk result (λ text. string_bytes text ≡ reportOf diagnosis.now) }
+    ensures { IfOk result (λ text. string_bytes text ≡ report_of diagnosis.now) }
 {
     match diagnosis {
         Diagnosis::Met {
@@ -74,7 +74,7 @@ fn list_seats(
 ) -> Result<String, AllocError>
     requires alike { length codes.now ≡ length seats.now }
     requires few { length codes.now ≤ 8 }
-    ensures { IfOk result (λ text. string_bytes text ≡ seatLines codes.now seats.now dates.now (length codes.now)) }
+    ensures { IfOk result (λ text. string_bytes text ≡ seat_lines codes.now seats.now dates.now (length codes.now)) }
 {
     let mut text = String::new(heap);
     for place in 0..codes.len() {

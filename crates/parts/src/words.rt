@@ -1,5 +1,5 @@
 // Seats and refusals in words.
-ghost use Rattle.parts.specs.Lines.{refusedLine, seatLine};
+ghost use Rattle.parts.specs.Lines.{refused_line, seat_line};
 ghost use Rattle.std.specs.Prelude.{Some};
 
 use crate::note_sheet::Refusal;
@@ -16,7 +16,7 @@ pub struct Seat {
 }
 
 impl fmt::Display for Seat {
-    ghost output = { λ s. Some (seatLine s.place s.term s.code s.date) };
+    ghost output = { λ s. Some (seat_line s.place s.term s.code s.date) };
 
     fn fmt<W: fmt::Write>(&self, f: &mut fmt::Formatter<W>) -> fmt::Result {
         let Seat {
@@ -30,7 +30,7 @@ impl fmt::Display for Seat {
 }
 
 impl fmt::Display for Refusal {
-    ghost output = { λ e. Some (refusedLine e) };
+    ghost output = { λ e. Some (refused_line e) };
 
     fn fmt<W: fmt::Write>(&self, f: &mut fmt::Formatter<W>) -> fmt::Result {
         let number = self.fault.cause.number();

@@ -10,11 +10,11 @@ use Rattle.sheet.specs.declared.row.Row.TheVariants.{Span, Same, Unlike}
 use Rattle.sheet.specs.declared.term.Form.{Form}
 use Rattle.sheet.specs.declared.term.Form.TheVariants.{Name, One, Two}
 use Rattle.sheet.specs.declared.term.Kind.{Kind}
-use Rattle.sheet.specs.Fields.{FieldValue, termField, rowField, kindByte, formBytes, tag_of, body_of, bytes_of, isLabel}
-use Rattle.sheet.specs.Parsing.{and_then, statedLength, kind_of, appliedAt, formAt, label_at, termIn, boundIn, contentIn, fieldIn}
+use Rattle.sheet.specs.Fields.{FieldValue, term_field, row_field, kind_byte, form_bytes, tag_of, body_of, bytes_of, is_label}
+use Rattle.sheet.specs.Parsing.{and_then, stated_length, kind_of, applied_at, form_at, label_at, term_in, bound_in, content_in, field_in}
 use Rattle.sheet.specs.RoundTrips.{WellFormed}
-use Rattle.sheet.specs.Terms.{wellLettered, isTableLetter}
-use Rattle.sheet.proofs.Digits.{bound-to-digits}
+use Rattle.sheet.specs.Terms.{well_lettered, is_table_letter}
+use Rattle.sheet.proofs.Digits.{bound_to_digits}
 
 -- the two ways of a test
 ways : {X : Type 0} (t : Bool) {x y z : X} → cond t x y ≡ z → ((t ≡ true) × (x ≡ z)) ⊎ ((t ≡ false) × (y ≡ z))
@@ -43,61 +43,61 @@ same_ok : {X : Type 0} {x y : X} → ◌≡◌ {A = Result X Cause} (Ok x) (Ok y
 same_ok e = cc
 
 -- k elements, from place i on
-abbrev elementsAt : ℕ → ℕ → List ℕ → List ℕ
-elementsAt zero i b = []
-elementsAt (suc k) i b = get_or b i 0 ∷ elementsAt k (i + 1) b
+abbrev elements_at : ℕ → ℕ → List ℕ → List ℕ
+elements_at zero i b = []
+elements_at (suc k) i b = get_or b i 0 ∷ elements_at k (i + 1) b
 
 -- a list from its place i on, by its next k elements
-unrolled : (k i : ℕ) (b : List ℕ) → i + k ≤ length b → drop i b ≡ elementsAt k i b ++ drop (i + k) b
+unrolled : (k i : ℕ) (b : List ℕ) → i + k ≤ length b → drop i b ≡ elements_at k i b ++ drop (i + k) b
 unrolled zero i b h = let e : i ≡ i + 0 = omega arith in ap (λ n. drop n b) e
 unrolled (suc k) i b h =
     let e : i + 1 + k ≡ i + suc k = omega arith in
-    drop_more b i 0 (omega arith) ∙ ap (λ x. get_or b i 0 ∷ x) (unrolled k (i + 1) b (omega arith) ∙ ap (λ n. elementsAt k (i + 1) b ++ drop n b) e)
+    drop_more b i 0 (omega arith) ∙ ap (λ x. get_or b i 0 ∷ x) (unrolled k (i + 1) b (omega arith) ∙ ap (λ n. elements_at k (i + 1) b ++ drop n b) e)
 
 -- a list of k elements, by its elements
-all_of : (k : ℕ) (b : List ℕ) → length b ≡ k → b ≡ elementsAt k 0 b ++ []
-all_of k b h = unrolled k 0 b (omega arith) ∙ ap (λ x. elementsAt k 0 b ++ x) (drop_all (0 + k) b (omega arith))
+all_of : (k : ℕ) (b : List ℕ) → length b ≡ k → b ≡ elements_at k 0 b ++ []
+all_of k b h = unrolled k 0 b (omega arith) ∙ ap (λ x. elements_at k 0 b ++ x) (drop_all (0 + k) b (omega arith))
 
-kind-back : (b : ℕ) (k : Kind) → kind_of b ≡ Ok k → kindByte k ≡ b
-kind-back b k e =
+kind_back : (b : ℕ) (k : Kind) → kind_of b ≡ Ok k → kind_byte k ≡ b
+kind_back b k e =
     ⊎_elim
-    (λ d. ap kindByte (sym (same_ok d.1)) ∙ sym (eqb-true b 68 d.0))
-    (λ m. let l = passed (eqb b 76) MalformedTerm m.1 in ap kindByte (sym (same_ok l.1)) ∙ sym (eqb-true b 76 l.0))
+    (λ d. ap kind_byte (sym (same_ok d.1)) ∙ sym (eqb-true b 68 d.0))
+    (λ m. let l = passed (eqb b 76) MalformedTerm m.1 in ap kind_byte (sym (same_ok l.1)) ∙ sym (eqb-true b 76 l.0))
     (ways (eqb b 68) e)
 
 -- a form that was read: its letter is right, and its bytes stand after the kind
 record FormBack (b : List ℕ) (g : Form) : Type 0 where
-  letter : wellLettered g ≡ true
-  bytes : drop 1 b ≡ formBytes g ++ drop (1 + length (formBytes g)) b
+  letter : well_lettered g ≡ true
+  bytes : drop 1 b ≡ form_bytes g ++ drop (1 + length (form_bytes g)) b
 
 name_back : (b : List ℕ) → 2 ≤ length b → get_or b 1 0 ≡ 78 → FormBack b Name
 name_back b h e = record { letter = refl; bytes = unrolled 1 1 b h ∙ ap (λ x. x ∷ drop 2 b) e }
 
-one-back : (b : List ℕ) → 4 ≤ length b → get_or b 1 0 ≡ 49 → isTableLetter (get_or b 2 0) ≡ true → FormBack b (One (get_or b 2 0) (get_or b 3 0))
-one-back b h e t = record { letter = t; bytes = unrolled 3 1 b h ∙ ap (λ x. x ∷ get_or b 2 0 ∷ get_or b 3 0 ∷ drop 4 b) e }
+one_back : (b : List ℕ) → 4 ≤ length b → get_or b 1 0 ≡ 49 → is_table_letter (get_or b 2 0) ≡ true → FormBack b (One (get_or b 2 0) (get_or b 3 0))
+one_back b h e t = record { letter = t; bytes = unrolled 3 1 b h ∙ ap (λ x. x ∷ get_or b 2 0 ∷ get_or b 3 0 ∷ drop 4 b) e }
 
-two_back : (b : List ℕ) → 5 ≤ length b → get_or b 1 0 ≡ 50 → isTableLetter (get_or b 2 0) ≡ true → FormBack b (Two (get_or b 2 0) (get_or b 3 0) (get_or b 4 0))
+two_back : (b : List ℕ) → 5 ≤ length b → get_or b 1 0 ≡ 50 → is_table_letter (get_or b 2 0) ≡ true → FormBack b (Two (get_or b 2 0) (get_or b 3 0) (get_or b 4 0))
 two_back b h e t = record { letter = t; bytes = unrolled 4 1 b h ∙ ap (λ x. x ∷ get_or b 2 0 ∷ get_or b 3 0 ∷ get_or b 4 0 ∷ drop 5 b) e }
 
 -- a table's letter and its arguments are there
-applied_back : (b : List ℕ) (size : ℕ) (f g : Form) → appliedAt b size f ≡ Ok g → (size ≤ length b) × (isTableLetter (get_or b 2 0) ≡ true) × (f ≡ g)
+applied_back : (b : List ℕ) (size : ℕ) (f g : Form) → applied_at b size f ≡ Ok g → (size ≤ length b) × (is_table_letter (get_or b 2 0) ≡ true) × (f ≡ g)
 applied_back b size f g e =
     let long = failed (ltb (length b) size) MalformedTerm e in
-    let lettered = passed (isTableLetter (get_or b 2 0)) MalformedTerm long.1 in
+    let lettered = passed (is_table_letter (get_or b 2 0)) MalformedTerm long.1 in
     (ltb-false (length b) size long.0, lettered.0, same_ok lettered.1)
 
-applied-form-back : (b : List ℕ) (g : Form) → cond (eqb (get_or b 1 0) 49) (appliedAt b 4 (One (get_or b 2 0) (get_or b 3 0))) (cond (eqb (get_or b 1 0) 50) (appliedAt b 5 (Two (get_or b 2 0) (get_or b 3 0) (get_or b 4 0))) (Err MalformedTerm)) ≡ Ok g → FormBack b g
-applied-form-back b g e =
+applied_form_back : (b : List ℕ) (g : Form) → cond (eqb (get_or b 1 0) 49) (applied_at b 4 (One (get_or b 2 0) (get_or b 3 0))) (cond (eqb (get_or b 1 0) 50) (applied_at b 5 (Two (get_or b 2 0) (get_or b 3 0) (get_or b 4 0))) (Err MalformedTerm)) ≡ Ok g → FormBack b g
+applied_form_back b g e =
     ⊎_elim
-    (λ o. let a = applied_back b 4 (One (get_or b 2 0) (get_or b 3 0)) g o.1 in subst (FormBack b) a.2 (one-back b a.0 (eqb-true (get_or b 1 0) 49 o.0) a.1))
+    (λ o. let a = applied_back b 4 (One (get_or b 2 0) (get_or b 3 0)) g o.1 in subst (FormBack b) a.2 (one_back b a.0 (eqb-true (get_or b 1 0) 49 o.0) a.1))
     (λ m. let t = passed (eqb (get_or b 1 0) 50) MalformedTerm m.1 in let a = applied_back b 5 (Two (get_or b 2 0) (get_or b 3 0) (get_or b 4 0)) g t.1 in subst (FormBack b) a.2 (two_back b a.0 (eqb-true (get_or b 1 0) 50 t.0) a.1))
     (ways (eqb (get_or b 1 0) 49) e)
 
-form-back : (b : List ℕ) (g : Form) → 2 ≤ length b → formAt b ≡ Ok g → FormBack b g
-form-back b g h e =
+form_back : (b : List ℕ) (g : Form) → 2 ≤ length b → form_at b ≡ Ok g → FormBack b g
+form_back b g h e =
     ⊎_elim
     (λ n. subst (FormBack b) (same_ok n.1) (name_back b h (eqb-true (get_or b 1 0) 78 n.0)))
-    (λ m. applied-form-back b g m.1)
+    (λ m. applied_form_back b g m.1)
     (ways (eqb (get_or b 1 0) 78) e)
 
 -- a content that was read: it is well-formed, and it stands there
@@ -106,42 +106,42 @@ record ContentBack (tag : ℕ) (b : List ℕ) (f : FieldValue) : Type 0 where
   tagged : tag_of f ≡ tag
   body : body_of f ≡ b
 
-term-back : (b : List ℕ) (f : FieldValue) → 2 ≤ length b → termIn b ≡ Ok f → ContentBack 84 b f
-term-back b f h e =
+term_back : (b : List ℕ) (f : FieldValue) → 2 ≤ length b → term_in b ≡ Ok f → ContentBack 84 b f
+term_back b f h e =
     let kinded = between (kind_of (get_or b 0 0)) e in
-    let formed = between (formAt b) kinded.2 in
+    let formed = between (form_at b) kinded.2 in
     let k = kinded.0 in
     let g = formed.0 in
-    let back = form-back b g h formed.1 in
-    let tail = drop (1 + length (formBytes g)) b in
+    let back = form_back b g h formed.1 in
+    let tail = drop (1 + length (form_bytes g)) b in
     let labelled = between (label_at tail) formed.2 in
     let l = labelled.0 in
-    let is = passed (isLabel tail) BadLabel labelled.1 in
-    let made : termField (record { kind = k; form = g }) l ≡ f = same_ok labelled.2 in
-    let body : kindByte k ∷ (formBytes g ++ l) ≡ b =
-    (λ i. kind-back (get_or b 0 0) k kinded.1 i ∷ (formBytes g ++ sym (same_ok is.1) i))
+    let is = passed (is_label tail) BadLabel labelled.1 in
+    let made : term_field (record { kind = k; form = g }) l ≡ f = same_ok labelled.2 in
+    let body : kind_byte k ∷ (form_bytes g ++ l) ≡ b =
+    (λ i. kind_back (get_or b 0 0) k kinded.1 i ∷ (form_bytes g ++ sym (same_ok is.1) i))
     ∙ ap (λ x. get_or b 0 0 ∷ x) (sym back.bytes) ∙ sym (unrolled 1 0 b (omega arith)) in
     subst (ContentBack 84 b) made (record {
-      sound = (back.letter, ap isLabel (sym (same_ok is.1)) ∙ is.0);
+      sound = (back.letter, ap is_label (sym (same_ok is.1)) ∙ is.0);
       tagged = refl;
       body = body;
     })
 
-span-back : (b : List ℕ) → ((i : ℕ) → get_or b i 0 < 256) → length b ≡ 6 → ContentBack 83 b (rowField (Span (get_or b 0 0) (get_or b 1 0) (boundIn b)))
-span-back b small h = record {
+span_back : (b : List ℕ) → ((i : ℕ) → get_or b i 0 < 256) → length b ≡ 6 → ContentBack 83 b (row_field (Span (get_or b 0 0) (get_or b 1 0) (bound_in b)))
+span_back b small h = record {
   sound = read_sfits w32 _;
   tagged = refl;
-  body = ap (λ x. get_or b 0 0 ∷ get_or b 1 0 ∷ x) (bound-to-digits (get_or b 2 0) (get_or b 3 0) (get_or b 4 0) (get_or b 5 0) (small 2) (small 3) (small 4) (small 5)) ∙ sym (all_of 6 b h);
+  body = ap (λ x. get_or b 0 0 ∷ get_or b 1 0 ∷ x) (bound_to_digits (get_or b 2 0) (get_or b 3 0) (get_or b 4 0) (get_or b 5 0) (small 2) (small 3) (small 4) (small 5)) ∙ sym (all_of 6 b h);
 }
 
-same_back : (b : List ℕ) → length b ≡ 2 → ContentBack 69 b (rowField (Same (get_or b 0 0) (get_or b 1 0)))
+same_back : (b : List ℕ) → length b ≡ 2 → ContentBack 69 b (row_field (Same (get_or b 0 0) (get_or b 1 0)))
 same_back b h = record { sound = tt; tagged = refl; body = sym (all_of 2 b h) }
 
-unlike-back : (b : List ℕ) → length b ≡ 2 → ContentBack 85 b (rowField (Unlike (get_or b 0 0) (get_or b 1 0)))
-unlike-back b h = record { sound = tt; tagged = refl; body = sym (all_of 2 b h) }
+unlike_back : (b : List ℕ) → length b ≡ 2 → ContentBack 85 b (row_field (Unlike (get_or b 0 0) (get_or b 1 0)))
+unlike_back b h = record { sound = tt; tagged = refl; body = sym (all_of 2 b h) }
 
 -- a row of the length that its tag asks for
-row_back : (tag n : ℕ) (b : List ℕ) (r : Row) (f : FieldValue) → cond (eqb (length b) n) (Ok (rowField r)) (Err WrongLength) ≡ Ok f → (length b ≡ n → ContentBack tag b (rowField r)) → ContentBack tag b f
+row_back : (tag n : ℕ) (b : List ℕ) (r : Row) (f : FieldValue) → cond (eqb (length b) n) (Ok (row_field r)) (Err WrongLength) ≡ Ok f → (length b ≡ n → ContentBack tag b (row_field r)) → ContentBack tag b f
 row_back tag n b r f e back =
     let long = passed (eqb (length b) n) WrongLength e in
     subst (ContentBack tag b) (same_ok long.1) (back (eqb-true (length b) n long.0))
@@ -150,18 +150,18 @@ module _ (tag : ℕ) (b : List ℕ) (f : FieldValue) (small : (i : ℕ) → get_
   at : (n : ℕ) → eqb tag n ≡ true → ContentBack n b f → ContentBack tag b f
   at n h = subst (λ m. ContentBack m b f) (sym (eqb-true tag n h))
 
-  pair-back : cond (eqb tag 69) (cond (eqb (length b) 2) (Ok (rowField (Same (get_or b 0 0) (get_or b 1 0)))) (Err WrongLength)) (cond (eqb tag 85) (cond (eqb (length b) 2) (Ok (rowField (Unlike (get_or b 0 0) (get_or b 1 0)))) (Err WrongLength)) (Err UnknownTag)) ≡ Ok f → ContentBack tag b f
-  pair-back e =
+  pair_back : cond (eqb tag 69) (cond (eqb (length b) 2) (Ok (row_field (Same (get_or b 0 0) (get_or b 1 0)))) (Err WrongLength)) (cond (eqb tag 85) (cond (eqb (length b) 2) (Ok (row_field (Unlike (get_or b 0 0) (get_or b 1 0)))) (Err WrongLength)) (Err UnknownTag)) ≡ Ok f → ContentBack tag b f
+  pair_back e =
       ⊎_elim
       (λ t. at 69 t.0 (row_back 69 2 b (Same (get_or b 0 0) (get_or b 1 0)) f t.1 (same_back b)))
-      (λ m. let t = passed (eqb tag 85) UnknownTag m.1 in at 85 t.0 (row_back 85 2 b (Unlike (get_or b 0 0) (get_or b 1 0)) f t.1 (unlike-back b)))
+      (λ m. let t = passed (eqb tag 85) UnknownTag m.1 in at 85 t.0 (row_back 85 2 b (Unlike (get_or b 0 0) (get_or b 1 0)) f t.1 (unlike_back b)))
       (ways (eqb tag 69) e)
 
-  content-back : contentIn tag b ≡ Ok f → ContentBack tag b f
-  content-back e =
+  content_back : content_in tag b ≡ Ok f → ContentBack tag b f
+  content_back e =
       ⊎_elim
-      (λ t. let long = failed (ltb (length b) 2) WrongLength t.1 in at 84 t.0 (term-back b f (ltb-false (length b) 2 long.0) long.1))
-      (λ m. ⊎_elim (λ t. at 83 t.0 (row_back 83 6 b (Span (get_or b 0 0) (get_or b 1 0) (boundIn b)) f t.1 (span-back b small))) (λ m. pair-back m.1) (ways (eqb tag 83) m.1))
+      (λ t. let long = failed (ltb (length b) 2) WrongLength t.1 in at 84 t.0 (term_back b f (ltb-false (length b) 2 long.0) long.1))
+      (λ m. ⊎_elim (λ t. at 83 t.0 (row_back 83 6 b (Span (get_or b 0 0) (get_or b 1 0) (bound_in b)) f t.1 (span_back b small))) (λ m. pair_back m.1) (ways (eqb tag 83) m.1))
       (ways (eqb tag 84) e)
 
 -- a part of a run of bytes is one too
@@ -182,23 +182,23 @@ front_of s n h =
 -- a field that was read: it is well-formed, and its bytes are the front of the sheet
 pub record FieldBack (s : List ℕ) (f : FieldValue) : Type 0 where
   pub sound : WellFormed f
-  pub long : 3 + statedLength s ≤ length s
-  pub bytes : bytes_of f ≡ take (3 + statedLength s) s
+  pub long : 3 + stated_length s ≤ length s
+  pub bytes : bytes_of f ≡ take (3 + stated_length s) s
 
-pub field_back : (s : List ℕ) (f : FieldValue) → ((i : ℕ) → get_or s i 0 < 256) → fieldIn s ≡ Ok f → FieldBack s f
+pub field_back : (s : List ℕ) (f : FieldValue) → ((i : ℕ) → get_or s i 0 < 256) → field_in s ≡ Ok f → FieldBack s f
 field_back s f small e =
     let headed = failed (ltb (length s) 3) CutShort e in
-    let whole = failed (ltb (length s) (3 + statedLength s)) CutShort headed.1 in
+    let whole = failed (ltb (length s) (3 + stated_length s)) CutShort headed.1 in
     let three : 3 ≤ length s = ltb-false (length s) 3 headed.0 in
-    let far : 3 + statedLength s ≤ length s = ltb-false (length s) (3 + statedLength s) whole.0 in
-    let b = take (statedLength s) (drop 3 s) in
-    let n : length b ≡ statedLength s = simp (length-take, length-drop) (omega arith) in
-    let back = content-back (get_or s 0 0) b f (λ i. part_small s (statedLength s) i small) whole.1 in
+    let far : 3 + stated_length s ≤ length s = ltb-false (length s) (3 + stated_length s) whole.0 in
+    let b = take (stated_length s) (drop 3 s) in
+    let n : length b ≡ stated_length s = simp (length-take, length-drop) (omega arith) in
+    let back = content_back (get_or s 0 0) b f (λ i. part_small s (stated_length s) i small) whole.1 in
     let low : get_or s 2 0 < 256 = small 2 in
-    let high : statedLength s / 256 ≡ get_or s 1 0 = omega arith in
-    let rest : statedLength s % 256 ≡ get_or s 2 0 = omega arith in
-    let size : length (body_of f) ≡ statedLength s = ap length back.body ∙ n in
-    let front : take (3 + statedLength s) s ≡ get_or s 0 0 ∷ get_or s 1 0 ∷ get_or s 2 0 ∷ b = front_of s (statedLength s) three in
+    let high : stated_length s / 256 ≡ get_or s 1 0 = omega arith in
+    let rest : stated_length s % 256 ≡ get_or s 2 0 = omega arith in
+    let size : length (body_of f) ≡ stated_length s = ap length back.body ∙ n in
+    let front : take (3 + stated_length s) s ≡ get_or s 0 0 ∷ get_or s 1 0 ∷ get_or s 2 0 ∷ b = front_of s (stated_length s) three in
     record {
       sound = back.sound;
       long = far;

@@ -5,24 +5,24 @@ use Rattle.std.proofs.lemmas.List.{append_assoc, drop_at, drop-drop, length-take
 use Rattle.sheet.specs.declared.fault.Cause.{Cause}
 use Rattle.sheet.specs.declared.fault.Cause.TheVariants.{BadLabel, BufferTooShort, MalformedTerm}
 use Rattle.sheet.specs.declared.row.Row.TheVariants.{Span, Same, Unlike}
-use Rattle.sheet.specs.Causes.{inLayer, readerLetter}
+use Rattle.sheet.specs.Causes.{in_layer, reader_letter}
 use Rattle.sheet.specs.Encoding.{Written, encode, leaving, refused, put, written}
-use Rattle.sheet.specs.Fields.{FieldValue, termField, rowField, bytes_of, isLabel}
+use Rattle.sheet.specs.Fields.{FieldValue, term_field, row_field, bytes_of, is_label}
 use Rattle.sheet.specs.Parsing.{parse, remaining}
 use Rattle.sheet.specs.RoundTrips.{WellFormed, RowFits, WrittenAgain, ReadBack}
-use Rattle.sheet.specs.Terms.{wellLettered}
-use Rattle.sheet.proofs.Accepting.{field-read, rest-left}
+use Rattle.sheet.specs.Terms.{well_lettered}
+use Rattle.sheet.proofs.Accepting.{field_read, rest_left}
 
 -- its bytes are put down
-pub well-formed-put : (f : FieldValue) (out : List ℕ) → WellFormed f → written f out ≡ put (bytes_of f) out
-well-formed-put (termField t l) out w = rw (w.0, w.1)
-well-formed-put (rowField (Span i j c)) out w = refl
-well-formed-put (rowField (Same i j)) out w = refl
-well-formed-put (rowField (Unlike i j)) out w = refl
+pub well_formed_put : (f : FieldValue) (out : List ℕ) → WellFormed f → written f out ≡ put (bytes_of f) out
+well_formed_put (term_field t l) out w = rw (w.0, w.1)
+well_formed_put (row_field (Span i j c)) out w = refl
+well_formed_put (row_field (Same i j)) out w = refl
+well_formed_put (row_field (Unlike i j)) out w = refl
 
 -- where there is room, they stand at the front
-put-with-room : (bytes out : List ℕ) → length bytes ≤ length out → put bytes out ≡ record { answer = Ok (length bytes); buffer = bytes ++ drop (length bytes) out }
-put-with-room bytes out h =
+put_with_room : (bytes out : List ℕ) → length bytes ≤ length out → put bytes out ≡ record { answer = Ok (length bytes); buffer = bytes ++ drop (length bytes) out }
+put_with_room bytes out h =
     let t : ltb (length out) (length bytes) ≡ false = le-ltb _ _ h in
     rw t
 
@@ -31,8 +31,8 @@ pub gives_back : (s : List ℕ) (f : FieldValue) (n : ℕ) → WellFormed f → 
 gives_back s f n w long e out room =
     let size : length (take n s) ≡ n = length-take-le n s long in
     let same : written f out ≡ record { answer = Ok n; buffer = take n s ++ drop n out } =
-    well-formed-put f out w ∙ ap (λ b. put b out) e ∙ put-with-room (take n s) out (omega arith) ∙ ap (λ m. record { answer = Ok m; buffer = take n s ++ drop m out }) size in
-    ap (λ (x : Written _). record { answer = inLayer readerLetter x.answer; buffer = x.buffer }) same
+    well_formed_put f out w ∙ ap (λ b. put b out) e ∙ put_with_room (take n s) out (omega arith) ∙ ap (λ m. record { answer = Ok m; buffer = take n s ++ drop m out }) size in
+    ap (λ (x : Written _). record { answer = in_layer reader_letter x.answer; buffer = x.buffer }) same
 
 -- two runs of bytes with no room for both
 pub put_refused : (head tail out : List ℕ) → length out < length head + length tail → refused BufferTooShort out ≡ put (head ++ tail) out
@@ -52,7 +52,7 @@ put_both head tail out x y ex ey h =
     ∙ (λ i. take_at head rest (length head) refl i ++ (tail ++ drop (length tail) (drop_at head rest (length head) refl i)))
     ∙ ap (λ w. head ++ (tail ++ w)) (drop-drop (length tail) (length head) out ∙ ap (λ m. drop m out) (sym n))
     ∙ sym (append_assoc head tail (drop (length (head ++ tail)) out)) in
-    (λ i. leaving (Ok (sym n i)) (laid i)) ∙ sym (put-with-room (head ++ tail) out (omega arith))
+    (λ i. leaving (Ok (sym n i)) (laid i)) ∙ sym (put_with_room (head ++ tail) out (omega arith))
 
 -- a refusal leaves no length
 no_length : {P : Type 0} {n : ℕ} {c : Cause} {after out : List ℕ} → leaving (Ok n) after ≡ refused c out → P
@@ -61,48 +61,48 @@ no_length e =
     absurd (omega arith)
 
 -- so where a length is left, the tests were passed
-both-passed : (p q : Bool) (n : ℕ) (after out : List ℕ) (w : Written Cause) → leaving (Ok n) after ≡ cond p (cond q w (refused BadLabel out)) (refused MalformedTerm out) → (p ≡ true) × (q ≡ true) × (leaving (Ok n) after ≡ w)
-both-passed true true n after out w e = (refl, refl, e)
-both-passed true false n after out w e = no_length e
-both-passed false q n after out w e = no_length e
+both_passed : (p q : Bool) (n : ℕ) (after out : List ℕ) (w : Written Cause) → leaving (Ok n) after ≡ cond p (cond q w (refused BadLabel out)) (refused MalformedTerm out) → (p ≡ true) × (q ≡ true) × (leaving (Ok n) after ≡ w)
+both_passed true true n after out w e = (refl, refl, e)
+both_passed true false n after out w e = no_length e
+both_passed false q n after out w e = no_length e
 
-had-room : (t : Bool) (n : ℕ) (after bytes out : List ℕ) → leaving (Ok n) after ≡ cond t (refused BufferTooShort out) (leaving (Ok (length bytes)) (bytes ++ drop (length bytes) out)) → (n ≡ length bytes) × (after ≡ bytes ++ drop n out)
-had-room true n after bytes out e = no_length e
-had-room false n after bytes out e =
+had_room : (t : Bool) (n : ℕ) (after bytes out : List ℕ) → leaving (Ok n) after ≡ cond t (refused BufferTooShort out) (leaving (Ok (length bytes)) (bytes ++ drop (length bytes) out)) → (n ≡ length bytes) × (after ≡ bytes ++ drop n out)
+had_room true n after bytes out e = no_length e
+had_room false n after bytes out e =
     let m : n ≡ length bytes = cc (ap (λ (w : Written Cause). w.answer) e) in
     (m, ap (λ (w : Written Cause). w.buffer) e ∙ ap (λ k. bytes ++ drop k out) (sym m))
 
 -- a length is left: the bytes of the field were put down
-was-put : (f : FieldValue) (n : ℕ) (before after : List ℕ) → leaving (Ok n) after ≡ written f before → leaving (Ok n) after ≡ put (bytes_of f) before
-was-put (termField t l) n before after e = (both-passed (wellLettered t.form) (isLabel l) n after before (put (bytes_of (termField t l)) before) e).2
-was-put (rowField r) n before after e = e
+was_put : (f : FieldValue) (n : ℕ) (before after : List ℕ) → leaving (Ok n) after ≡ written f before → leaving (Ok n) after ≡ put (bytes_of f) before
+was_put (term_field t l) n before after e = (both_passed (well_lettered t.form) (is_label l) n after before (put (bytes_of (term_field t l)) before) e).2
+was_put (row_field r) n before after e = e
 
-written-bytes : (f : FieldValue) (n : ℕ) (before after : List ℕ) → leaving (Ok n) after ≡ written f before → (n ≡ length (bytes_of f)) × (after ≡ bytes_of f ++ drop n before)
-written-bytes f n before after e = had-room (ltb (length before) (length (bytes_of f))) n after (bytes_of f) before (was-put f n before after e)
+written_bytes : (f : FieldValue) (n : ℕ) (before after : List ℕ) → leaving (Ok n) after ≡ written f before → (n ≡ length (bytes_of f)) × (after ≡ bytes_of f ++ drop n before)
+written_bytes f n before after e = had_room (ltb (length before) (length (bytes_of f))) n after (bytes_of f) before (was_put f n before after e)
 
-written-sound : (f : FieldValue) (n : ℕ) (before after : List ℕ) → RowFits f → leaving (Ok n) after ≡ written f before → WellFormed f
-written-sound (termField t l) n before after fits e =
-    let p = both-passed (wellLettered t.form) (isLabel l) n after before (put (bytes_of (termField t l)) before) e in
+written_sound : (f : FieldValue) (n : ℕ) (before after : List ℕ) → RowFits f → leaving (Ok n) after ≡ written f before → WellFormed f
+written_sound (term_field t l) n before after fits e =
+    let p = both_passed (well_lettered t.form) (is_label l) n after before (put (bytes_of (term_field t l)) before) e in
     (p.0, p.1)
-written-sound (rowField r) n before after fits e = fits
+written_sound (row_field r) n before after fits e = fits
 
 -- what a layer accepts was found
-pub found : {X : Type 0} {x : X} (l : ℕ) (q : Result X Cause) → Ok x ≡ inLayer l q → q ≡ Ok x
+pub found : {X : Type 0} {x : X} (l : ℕ) (q : Result X Cause) → Ok x ≡ in_layer l q → q ≡ Ok x
 found l (Ok y) e = cc
 found l (Err c) e = let z : ◌≡◌ {A = ℕ} 0 1 = cc in absurd (omega arith)
 
 -- the length that the writer answers lies within the buffer
-pub written-within : (f : FieldValue) (before : List ℕ) (n : ℕ) → Ok n ≡ (encode f before).answer → n ≤ length (encode f before).buffer
-written-within f before n e =
+pub written_within : (f : FieldValue) (before : List ℕ) (n : ℕ) → Ok n ≡ (encode f before).answer → n ≤ length (encode f before).buffer
+written_within f before n e =
     let after = (written f before).buffer in
-    let left : leaving (Ok n) after ≡ written f before = ap (λ r. leaving r after) (sym (found readerLetter (written f before).answer e)) in
-    let bytes = written-bytes f n before after left in
+    let left : leaving (Ok n) after ≡ written f before = ap (λ r. leaving r after) (sym (found reader_letter (written f before).answer e)) in
+    let bytes = written_bytes f n before after left in
     let long : n ≡ length (bytes_of f) = bytes.0 in
     omega (arith, simp length-append at (ap length bytes.1))
 
 -- what was written is read back
-pub reads-back : (f : FieldValue) (n : ℕ) (before after : List ℕ) → RowFits f → leaving (Ok n) after ≡ written f before → ReadBack f before after (Ok n)
-reads-back f n before after fits e =
-    let sound = written-sound f n before after fits e in
-    let bytes = written-bytes f n before after e in
-    (ap parse bytes.1 ∙ ap (inLayer readerLetter) (field-read f (drop n before) sound), ap remaining bytes.1 ∙ rest-left f (drop n before) sound)
+pub reads_back : (f : FieldValue) (n : ℕ) (before after : List ℕ) → RowFits f → leaving (Ok n) after ≡ written f before → ReadBack f before after (Ok n)
+reads_back f n before after fits e =
+    let sound = written_sound f n before after fits e in
+    let bytes = written_bytes f n before after e in
+    (ap parse bytes.1 ∙ ap (in_layer reader_letter) (field_read f (drop n before) sound), ap remaining bytes.1 ∙ rest_left f (drop n before) sound)

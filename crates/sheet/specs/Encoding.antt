@@ -3,9 +3,9 @@ use Rattle.std.specs.Prelude.{ℕ, cond, List, ◌++◌, length, drop, Ok, Err, 
 use Rattle.sheet.specs.declared.fault.Cause.{Cause}
 use Rattle.sheet.specs.declared.fault.Cause.TheVariants.{MalformedTerm, BadLabel, BufferTooShort}
 use Rattle.sheet.specs.declared.fault.Fault.{Fault}
-use Rattle.sheet.specs.Causes.{inLayer, readerLetter}
-use Rattle.sheet.specs.Fields.{FieldValue, termField, rowField, bytes_of, isLabel}
-use Rattle.sheet.specs.Terms.{wellLettered}
+use Rattle.sheet.specs.Causes.{in_layer, reader_letter}
+use Rattle.sheet.specs.Fields.{FieldValue, term_field, row_field, bytes_of, is_label}
+use Rattle.sheet.specs.Terms.{well_lettered}
 
 -- what a call answers, the length written or why it refuses, and what the whole buffer holds then
 pub record Written (E : Type 0) : Type 0 where
@@ -25,9 +25,9 @@ put bytes out = cond (nat_lt (length out) (length bytes)) (refused BufferTooShor
 
 -- the table's letter is tested first, then the label, then the room
 abbrev pub written : FieldValue → List ℕ → Written Cause
-written (termField t l) out =
-    cond (wellLettered t.form) (cond (isLabel l) (put (bytes_of (termField t l)) out) (refused BadLabel out)) (refused MalformedTerm out)
-written (rowField r) out = put (bytes_of (rowField r)) out
+written (term_field t l) out =
+    cond (well_lettered t.form) (cond (is_label l) (put (bytes_of (term_field t l)) out) (refused BadLabel out)) (refused MalformedTerm out)
+written (row_field r) out = put (bytes_of (row_field r)) out
 
 abbrev pub encode : FieldValue → List ℕ → Written Fault
-encode f out = leaving (inLayer readerLetter (written f out).answer) (written f out).buffer
+encode f out = leaving (in_layer reader_letter (written f out).answer) (written f out).buffer

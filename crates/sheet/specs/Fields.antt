@@ -14,70 +14,70 @@ use Rattle.sheet.specs.declared.term.Term.{Term}
 
 -- a whole field by its values: a term with the bytes of its label, or a row
 pub data FieldValue : Type 0 where
-  termField : Term → List ℕ → FieldValue
-  rowField : Row → FieldValue
+  term_field : Term → List ℕ → FieldValue
+  row_field : Row → FieldValue
 
 abbrev pub value_of : Field → FieldValue
-value_of (TermOf t l) = termField t l.now
-value_of (RowOf r) = rowField r
+value_of (TermOf t l) = term_field t l.now
+value_of (RowOf r) = row_field r
 
 -- the tags T, S, E and U
-abbrev pub termTag : ℕ
-termTag = 84
+abbrev pub term_tag : ℕ
+term_tag = 84
 
-abbrev pub spanTag : ℕ
-spanTag = 83
+abbrev pub span_tag : ℕ
+span_tag = 83
 
-abbrev pub sameTag : ℕ
-sameTag = 69
+abbrev pub same_tag : ℕ
+same_tag = 69
 
-abbrev pub unlikeTag : ℕ
-unlikeTag = 85
+abbrev pub unlike_tag : ℕ
+unlike_tag = 85
 
 -- the kinds D and L
-abbrev pub kindByte : Kind → ℕ
-kindByte Dated = 68
-kindByte Level = 76
+abbrev pub kind_byte : Kind → ℕ
+kind_byte Dated = 68
+kind_byte Level = 76
 
 -- the forms N, 1 and 2
-abbrev pub nameByte : ℕ
-nameByte = 78
+abbrev pub name_byte : ℕ
+name_byte = 78
 
-abbrev pub oneByte : ℕ
-oneByte = 49
+abbrev pub one_byte : ℕ
+one_byte = 49
 
-abbrev pub twoByte : ℕ
-twoByte = 50
+abbrev pub two_byte : ℕ
+two_byte = 50
 
 -- a table's letter and the numbers of its arguments follow the form
-abbrev pub formBytes : Form → List ℕ
-formBytes Name = nameByte ∷ []
-formBytes (One a x) = oneByte ∷ a ∷ x ∷ []
-formBytes (Two a x y) = twoByte ∷ a ∷ x ∷ y ∷ []
+abbrev pub form_bytes : Form → List ℕ
+form_bytes Name = name_byte ∷ []
+form_bytes (One a x) = one_byte ∷ a ∷ x ∷ []
+form_bytes (Two a x y) = two_byte ∷ a ∷ x ∷ y ∷ []
 
 -- kind and form, which stand before the label
-abbrev pub termBytes : Term → List ℕ
-termBytes t = kindByte t.kind ∷ formBytes t.form
+abbrev pub term_bytes : Term → List ℕ
+term_bytes t = kind_byte t.kind ∷ form_bytes t.form
 
 -- four bytes, high byte first, of a number below 2 ^ 32
-abbrev pub fourBytes : ℕ → List ℕ
-fourBytes n = (n / 16777216 % 256) ∷ (n / 65536 % 256) ∷ (n / 256 % 256) ∷ (n % 256) ∷ []
+abbrev pub four_bytes : ℕ → List ℕ
+four_bytes n = (n / 16777216 % 256) ∷ (n / 65536 % 256) ∷ (n / 256 % 256) ∷ (n % 256) ∷ []
 
 -- two's complement: `of_z w32 c` is c, or 2 ^ 32 + c where c is negative
-abbrev pub boundBytes : ℤ → List ℕ
-boundBytes c = fourBytes (of_z w32 c)
+abbrev pub bound_bytes : ℤ → List ℕ
+bound_bytes c = four_bytes (of_z w32 c)
 
 abbrev pub tag_of : FieldValue → ℕ
-tag_of (termField t l) = termTag
-tag_of (rowField (Span i j c)) = spanTag
-tag_of (rowField (Same i j)) = sameTag
-tag_of (rowField (Unlike i j)) = unlikeTag
+tag_of (term_field t l) = term_tag
+tag_of (row_field (Span i j c)) = span_tag
+tag_of (row_field (Same i j)) = same_tag
+tag_of (row_field (Unlike i j)) = unlike_tag
 
 abbrev pub body_of : FieldValue → List ℕ
-body_of (termField t l) = termBytes t ++ l
-body_of (rowField (Span i j c)) = i ∷ j ∷ boundBytes c
-body_of (rowField (Same i j)) = i ∷ j ∷ []
-body_of (rowField (Unlike i j)) = i ∷ j ∷ []
+body_of (term_field t l) = term_bytes t ++ l
+body_of (row_field (Span i j c)) = i ∷ j ∷ bound_bytes c
+body_of (row_field (Same i j)) = i ∷ j ∷ []
+body_of (row_field (Unlike i j)) = i ∷ j ∷ []
 
 abbrev pub framed : ℕ → List ℕ → List ℕ
 framed tag body = tag ∷ (length body / 256) ∷ (length body % 256) ∷ body
@@ -86,13 +86,13 @@ abbrev pub bytes_of : FieldValue → List ℕ
 bytes_of f = framed (tag_of f) (body_of f)
 
 -- a visible byte is 33 to 126
-abbrev pub isVisible : ℕ → Bool
-isVisible b = nat_le 33 b && nat_le b 126
+abbrev pub is_visible : ℕ → Bool
+is_visible b = nat_le 33 b && nat_le b 126
 
-abbrev pub allVisible : List ℕ → Bool
-allVisible [] = true
-allVisible (b ∷ bs) = isVisible b && allVisible bs
+abbrev pub all_visible : List ℕ → Bool
+all_visible [] = true
+all_visible (b ∷ bs) = is_visible b && all_visible bs
 
 -- a label is 1 to 12 visible bytes
-abbrev pub isLabel : List ℕ → Bool
-isLabel l = nat_le 1 (length l) && (nat_le (length l) 12 && allVisible l)
+abbrev pub is_label : List ℕ → Bool
+is_label l = nat_le 1 (length l) && (nat_le (length l) 12 && all_visible l)

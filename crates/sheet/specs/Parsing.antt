@@ -12,9 +12,9 @@ use Rattle.sheet.specs.declared.term.Form.{Form}
 use Rattle.sheet.specs.declared.term.Form.TheVariants.{Name, One, Two}
 use Rattle.sheet.specs.declared.term.Kind.{Kind}
 use Rattle.sheet.specs.declared.term.Kind.TheVariants.{Dated, Level}
-use Rattle.sheet.specs.Causes.{inLayer, readerLetter}
-use Rattle.sheet.specs.Fields.{FieldValue, termField, rowField, value_of, termTag, spanTag, sameTag, unlikeTag, kindByte, nameByte, oneByte, twoByte, formBytes, isLabel}
-use Rattle.sheet.specs.Terms.{isTableLetter}
+use Rattle.sheet.specs.Causes.{in_layer, reader_letter}
+use Rattle.sheet.specs.Fields.{FieldValue, term_field, row_field, value_of, term_tag, span_tag, same_tag, unlike_tag, kind_byte, name_byte, one_byte, two_byte, form_bytes, is_label}
+use Rattle.sheet.specs.Terms.{is_table_letter}
 
 -- goes on with a value, or hands a cause on
 abbrev pub and_then : {X Y : Type 0} → Result X Cause → (X → Result Y Cause) → Result Y Cause
@@ -22,65 +22,65 @@ and_then (Ok x) f = f x
 and_then (Err c) f = Err c
 
 -- the length that the second and the third byte state
-abbrev pub statedLength : List ℕ → ℕ
-statedLength s = slice_index s 1 * 256 + slice_index s 2
+abbrev pub stated_length : List ℕ → ℕ
+stated_length s = slice_index s 1 * 256 + slice_index s 2
 
 abbrev pub kind_of : ℕ → Result Kind Cause
-kind_of b = cond (b == kindByte Dated) (Ok Dated) (cond (b == kindByte Level) (Ok Level) (Err MalformedTerm))
+kind_of b = cond (b == kind_byte Dated) (Ok Dated) (cond (b == kind_byte Level) (Ok Level) (Err MalformedTerm))
 
 -- the form f, if the content has `size` bytes at least and the third is a table's letter
-abbrev pub appliedAt : List ℕ → ℕ → Form → Result Form Cause
-appliedAt b size f = cond (nat_lt (length b) size) (Err MalformedTerm) (cond (isTableLetter (slice_index b 2)) (Ok f) (Err MalformedTerm))
+abbrev pub applied_at : List ℕ → ℕ → Form → Result Form Cause
+applied_at b size f = cond (nat_lt (length b) size) (Err MalformedTerm) (cond (is_table_letter (slice_index b 2)) (Ok f) (Err MalformedTerm))
 
 -- the form, in the second byte of a term's content
-abbrev pub formAt : List ℕ → Result Form Cause
-formAt b =
-    cond (slice_index b 1 == nameByte) (Ok Name)
-    (cond (slice_index b 1 == oneByte) (appliedAt b 4 (One (slice_index b 2) (slice_index b 3)))
-    (cond (slice_index b 1 == twoByte) (appliedAt b 5 (Two (slice_index b 2) (slice_index b 3) (slice_index b 4)))
+abbrev pub form_at : List ℕ → Result Form Cause
+form_at b =
+    cond (slice_index b 1 == name_byte) (Ok Name)
+    (cond (slice_index b 1 == one_byte) (applied_at b 4 (One (slice_index b 2) (slice_index b 3)))
+    (cond (slice_index b 1 == two_byte) (applied_at b 5 (Two (slice_index b 2) (slice_index b 3) (slice_index b 4)))
     (Err MalformedTerm)))
 
 abbrev pub label_at : List ℕ → Result (List ℕ) Cause
-label_at l = cond (isLabel l) (Ok l) (Err BadLabel)
+label_at l = cond (is_label l) (Ok l) (Err BadLabel)
 
 -- the kind takes one byte, the form the bytes that it is written in, and the label the rest
-abbrev pub termIn : List ℕ → Result FieldValue Cause
-termIn b =
+abbrev pub term_in : List ℕ → Result FieldValue Cause
+term_in b =
     and_then (kind_of (slice_index b 0)) (λ k.
-    and_then (formAt b) (λ f.
-    and_then (label_at (drop (1 + length (formBytes f)) b)) (λ l.
-    Ok (termField (record { kind = k; form = f }) l))))
+    and_then (form_at b) (λ f.
+    and_then (label_at (drop (1 + length (form_bytes f)) b)) (λ l.
+    Ok (term_field (record { kind = k; form = f }) l))))
 
 -- four bytes, high byte first, as a number in two's complement
-abbrev pub boundIn : List ℕ → ℤ
-boundIn b = to_z w32 (slice_index b 2 * 16777216 + slice_index b 3 * 65536 + slice_index b 4 * 256 + slice_index b 5)
+abbrev pub bound_in : List ℕ → ℤ
+bound_in b = to_z w32 (slice_index b 2 * 16777216 + slice_index b 3 * 65536 + slice_index b 4 * 256 + slice_index b 5)
 
 -- the content b of a field with this tag
-abbrev pub contentIn : ℕ → List ℕ → Result FieldValue Cause
-contentIn tag b =
-    cond (tag == termTag) (cond (nat_lt (length b) 2) (Err WrongLength) (termIn b))
-    (cond (tag == spanTag) (cond (length b == 6) (Ok (rowField (Span (slice_index b 0) (slice_index b 1) (boundIn b)))) (Err WrongLength))
-    (cond (tag == sameTag) (cond (length b == 2) (Ok (rowField (Same (slice_index b 0) (slice_index b 1)))) (Err WrongLength))
-    (cond (tag == unlikeTag) (cond (length b == 2) (Ok (rowField (Unlike (slice_index b 0) (slice_index b 1)))) (Err WrongLength))
+abbrev pub content_in : ℕ → List ℕ → Result FieldValue Cause
+content_in tag b =
+    cond (tag == term_tag) (cond (nat_lt (length b) 2) (Err WrongLength) (term_in b))
+    (cond (tag == span_tag) (cond (length b == 6) (Ok (row_field (Span (slice_index b 0) (slice_index b 1) (bound_in b)))) (Err WrongLength))
+    (cond (tag == same_tag) (cond (length b == 2) (Ok (row_field (Same (slice_index b 0) (slice_index b 1)))) (Err WrongLength))
+    (cond (tag == unlike_tag) (cond (length b == 2) (Ok (row_field (Unlike (slice_index b 0) (slice_index b 1)))) (Err WrongLength))
     (Err UnknownTag))))
 
-abbrev pub fieldIn : List ℕ → Result FieldValue Cause
-fieldIn s =
+abbrev pub field_in : List ℕ → Result FieldValue Cause
+field_in s =
     cond (nat_lt (length s) 3) (Err CutShort)
-    (cond (nat_lt (length s) (3 + statedLength s)) (Err CutShort)
-    (contentIn (slice_index s 0) (take (statedLength s) (drop 3 s))))
+    (cond (nat_lt (length s) (3 + stated_length s)) (Err CutShort)
+    (content_in (slice_index s 0) (take (stated_length s) (drop 3 s))))
 
 -- the field at the front of a sheet, or why there is none
 abbrev pub parse : List ℕ → Result FieldValue Fault
-parse s = inLayer readerLetter (fieldIn s)
+parse s = in_layer reader_letter (field_in s)
 
 -- the bytes after the field; the whole sheet where it is refused
-abbrev pub restAfter : {X : Type 0} → Result X Fault → List ℕ → List ℕ
-restAfter (Ok f) s = drop (3 + statedLength s) s
-restAfter (Err e) s = s
+abbrev pub rest_after : {X : Type 0} → Result X Fault → List ℕ → List ℕ
+rest_after (Ok f) s = drop (3 + stated_length s) s
+rest_after (Err e) s = s
 
 abbrev pub remaining : List ℕ → List ℕ
-remaining s = restAfter (parse s) s
+remaining s = rest_after (parse s) s
 
 -- what was read, by its values
 abbrev pub outcome : {E : Type 0} → Result Field E → Result FieldValue E
@@ -88,6 +88,6 @@ outcome (Ok f) = Ok (value_of f)
 outcome (Err e) = Err e
 
 -- the same of a field together with the bytes after it
-abbrev pub fieldPart : Result (Field × Bor (List ℕ)) Cause → Result FieldValue Cause
-fieldPart (Ok p) = Ok (value_of p.0)
-fieldPart (Err c) = Err c
+abbrev pub field_part : Result (Field × Bor (List ℕ)) Cause → Result FieldValue Cause
+field_part (Ok p) = Ok (value_of p.0)
+field_part (Err c) = Err c

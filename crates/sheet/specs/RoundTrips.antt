@@ -3,23 +3,23 @@ use Rattle.std.specs.Prelude.{◌≡◌, ℕ, ◌+◌, ◌≤◌, true, List, �
 use Rattle.std.specs.Int.{w32}
 use Rattle.sheet.specs.declared.fault.Fault.{Fault}
 use Rattle.sheet.specs.declared.row.Row.TheVariants.{Span, Same, Unlike}
-use Rattle.sheet.specs.Fields.{FieldValue, termField, rowField, bytes_of, isLabel}
-use Rattle.sheet.specs.Parsing.{parse, remaining, statedLength}
+use Rattle.sheet.specs.Fields.{FieldValue, term_field, row_field, bytes_of, is_label}
+use Rattle.sheet.specs.Parsing.{parse, remaining, stated_length}
 use Rattle.sheet.specs.Encoding.{encode}
-use Rattle.sheet.specs.Terms.{wellLettered}
+use Rattle.sheet.specs.Terms.{well_lettered}
 
 -- a field that a sheet can hold: its table letter is from A to Z, its label is one, its bound has 32 bits.
 -- That the terms it names fit a byte is not asked here: the code's types say it
 abbrev pub WellFormed : FieldValue → Type 0
-WellFormed (termField t l) = (wellLettered t.form ≡ true) × (isLabel l ≡ true)
-WellFormed (rowField (Span i j c)) = FitsSigned w32 c
-WellFormed (rowField (Same i j)) = Unit {0}
-WellFormed (rowField (Unlike i j)) = Unit {0}
+WellFormed (term_field t l) = (well_lettered t.form ≡ true) × (is_label l ≡ true)
+WellFormed (row_field (Span i j c)) = FitsSigned w32 c
+WellFormed (row_field (Same i j)) = Unit {0}
+WellFormed (row_field (Unlike i j)) = Unit {0}
 
 -- what a row's type says of its bound, for the lemma on reading back
 abbrev pub RowFits : FieldValue → Type 0
-RowFits (termField t l) = Unit {0}
-RowFits (rowField r) = WellFormed (rowField r)
+RowFits (term_field t l) = Unit {0}
+RowFits (row_field r) = WellFormed (row_field r)
 
 -- the field f was read from the front of s: written again, it gives back its very bytes
 abbrev pub WrittenAgain : List ℕ → FieldValue → ℕ → Type 0
@@ -27,7 +27,7 @@ WrittenAgain s f n = (out : List ℕ) → n ≤ length out → encode f out ≡ 
 
 -- what was read from s is a well-formed field, which gives back its very bytes
 abbrev pub ReadRight : List ℕ → Result FieldValue Fault → Type 0
-ReadRight s (Ok f) = WellFormed f × WrittenAgain s f (3 + statedLength s)
+ReadRight s (Ok f) = WellFormed f × WrittenAgain s f (3 + stated_length s)
 ReadRight s (Err e) = Unit {0}
 
 -- no sheet that begins with a well-formed field is refused, or read as another

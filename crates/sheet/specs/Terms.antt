@@ -4,10 +4,10 @@ use Rattle.sheet.specs.declared.term.Form.{Form}
 use Rattle.sheet.specs.declared.term.Form.TheVariants.{Name, One, Two}
 
 -- the letters A to Z
-abbrev pub isTableLetter : ℕ → Bool
-isTableLetter c = nat_le 65 c && nat_le c 90
+abbrev pub is_table_letter : ℕ → Bool
+is_table_letter c = nat_le 65 c && nat_le c 90
 
-abbrev pub wellLettered : Form → Bool
-wellLettered Name = true
-wellLettered (One a x) = isTableLetter a
-wellLettered (Two a x y) = isTableLetter a
+abbrev pub well_lettered : Form → Bool
+well_lettered Name = true
+well_lettered (One a x) = is_table_letter a
+well_lettered (Two a x y) = is_table_letter a

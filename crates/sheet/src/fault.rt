@@ -1,6 +1,6 @@
 // Refusals: why a call refuses, and which layer says so.
 ghost use Rattle.std.specs.Prelude.{◌≡◌};
-ghost use Rattle.sheet.specs.Causes.{causeNumber, faultIn};
+ghost use Rattle.sheet.specs.Causes.{cause_number, fault_in};
 
 // The layer letter of the reader and the writer.
 pub const READER: char = 'R';
@@ -44,7 +44,7 @@ pub struct Fault {
 impl Cause {
     // The number that a refusal shows.
     pub fn number(self) -> u8
-        ensures { result ≡ causeNumber self }
+        ensures { result ≡ cause_number self }
     {
         match self {
             Cause::CutShort => 1,
@@ -76,7 +76,7 @@ impl Cause {
 
     // This cause as a refusal of the layer with that letter.
     pub fn in_layer(self, letter: char) -> Fault
-        ensures { result ≡ faultIn letter self }
+        ensures { result ≡ fault_in letter self }
     {
         Fault {
             cause: self,

@@ -1,6 +1,6 @@
 // The reader: the field at the front of a sheet.
 ghost use Rattle.std.specs.Prelude.{◌≡◌, ◌+◌, ◌≤◌, length, drop, IfOk, MatchResult};
-ghost use Rattle.sheet.specs.Parsing.{contentIn, fieldIn, fieldPart, formAt, kind_of, outcome, parse, remaining, statedLength, termIn};
+ghost use Rattle.sheet.specs.Parsing.{content_in, field_in, field_part, form_at, kind_of, outcome, parse, remaining, stated_length, term_in};
 ghost use Rattle.sheet.specs.RoundTrips.{ReadRight, ReadsAll};
 
 use crate::fault::{Cause, Fault, READER};
@@ -15,7 +15,7 @@ pub fn read_field(sheet: &[u8]) -> (Result<Field<'_>, Fault>, &[u8])
     ensures rest { result.1.now ≡ remaining sheet.now }
     ensures sound { ReadRight sheet.now (outcome result.0) }
     ensures complete { ReadsAll sheet.now (outcome result.0) }
-    ensures used { MatchResult result.0 (λ _. length result.1.now + (3 + statedLength sheet.now) ≡ length sheet.now) (λ _. result.1.now ≡ sheet.now) }
+    ensures used { MatchResult result.0 (λ _. length result.1.now + (3 + stated_length sheet.now) ≡ length sheet.now) (λ _. result.1.now ≡ sheet.now) }
 {
     read_front(sheet)
 }
@@ -33,8 +33,8 @@ fn read_front(sheet: &[u8]) -> (Result<Field<'_>, Fault>, &[u8])
 
 // The field and the bytes after it.
 fn split_field(sheet: &[u8]) -> Result<(Field<'_>, &[u8]), Cause>
-    ensures field { fieldPart result ≡ fieldIn sheet.now }
-    ensures rest { IfOk result (λ p. p.1.now ≡ drop (3 + statedLength sheet.now) sheet.now) }
+    ensures field { field_part result ≡ field_in sheet.now }
+    ensures rest { IfOk result (λ p. p.1.now ≡ drop (3 + stated_length sheet.now) sheet.now) }
 {
     let [tag, high, low, after @ ..] = sheet else {
         return Err(Cause::CutShort);
@@ -60,7 +60,7 @@ fn read_kind(byte: u8) -> Result<Kind, Cause>
 // The form in a term's content.
 fn read_form(body: &[u8]) -> Result<Form, Cause>
     requires { 2 ≤ length body.now }
-    ensures { result ≡ formAt body.now }
+    ensures { result ≡ form_at body.now }
 {
     match (body[1] as char, body) {
         ('N', _) => Ok(Form::Name),
@@ -80,7 +80,7 @@ fn read_form(body: &[u8]) -> Result<Form, Cause>
 // The content of a term field: kind, form and label.
 fn read_term(body: &[u8]) -> Result<Field<'_>, Cause>
     requires { 2 ≤ length body.now }
-    ensures { outcome result ≡ termIn body.now }
+    ensures { outcome result ≡ term_in body.now }
 {
     let kind = read_kind(body[0])?;
     let form = read_form(body)?;
@@ -96,7 +96,7 @@ fn read_term(body: &[u8]) -> Result<Field<'_>, Cause>
 
 // The content of a field with this tag.
 fn read_content(tag: u8, body: &[u8]) -> Result<Field<'_>, Cause>
-    ensures { outcome result ≡ contentIn tag body.now }
+    ensures { outcome result ≡ content_in tag body.now }
 {
     match (tag as char, body) {
         ('T', [_, _, ..]) => read_term(body),

@@ -1,7 +1,7 @@
 // Terms: the unknown whole numbers of a sheet.
 ghost use Rattle.std.specs.Prelude.{◌≡◌, length};
-ghost use Rattle.sheet.specs.Fields.{formBytes};
-ghost use Rattle.sheet.specs.Terms.{wellLettered};
+ghost use Rattle.sheet.specs.Fields.{form_bytes};
+ghost use Rattle.sheet.specs.Terms.{well_lettered};
 
 // A dated term is an instant, counted in ticks; a level is a value that a signal generator plays.
 #[derive(Clone, Copy)]
@@ -28,7 +28,7 @@ pub struct Term {
 impl Form {
     // Whether the table, if there is one, has a letter from A to Z.
     pub fn is_well_lettered(self) -> bool
-        ensures { result ≡ wellLettered self }
+        ensures { result ≡ well_lettered self }
     {
         match self {
             Form::Name => true,
@@ -38,7 +38,7 @@ impl Form {
 
     // How many bytes the form takes in a field.
     pub(crate) fn size(self) -> usize
-        ensures { result ≡ length (formBytes self) }
+        ensures { result ≡ length (form_bytes self) }
     {
         match self {
             Form::Name => 1,

@@ -1,7 +1,7 @@
 // The writer: one field into the caller's buffer.
 ghost use Rattle.std.specs.Prelude.{◌≡◌, ◌++◌};
 ghost use Rattle.sheet.specs.Encoding.{encode, leaving, put, written};
-ghost use Rattle.sheet.specs.Fields.{value_of, kindByte, rowField, termField};
+ghost use Rattle.sheet.specs.Fields.{value_of, kind_byte, row_field, term_field};
 ghost use Rattle.sheet.specs.RoundTrips.{ReadBack, RowFits};
 
 use crate::fault::{Cause, Fault, READER};
@@ -35,7 +35,7 @@ fn write_value(field: &Field<'_>, out: &mut [u8]) -> Result<usize, Cause>
 
 // A term is written only with a table letter from A to Z and a proper label.
 fn write_term(term: Term, label: &[u8], out: &mut [u8]) -> Result<usize, Cause>
-    ensures { leaving result out.new ≡ written (termField term label.now) out.old }
+    ensures { leaving result out.new ≡ written (term_field term label.now) out.old }
 {
     if !term.form.is_well_lettered() {
         return Err(Cause::MalformedTerm);
@@ -65,8 +65,8 @@ fn write_term(term: Term, label: &[u8], out: &mut [u8]) -> Result<usize, Cause>
 }
 
 fn write_row(row: Row, out: &mut [u8]) -> Result<usize, Cause>
-    ensures leaves { leaving result out.new ≡ written (rowField row) out.old }
-    ensures fits { RowFits (rowField row) }
+    ensures leaves { leaving result out.new ≡ written (row_field row) out.old }
+    ensures fits { RowFits (row_field row) }
 {
     match row {
         Row::Span { left, right, bound } => put_bytes(
@@ -80,7 +80,7 @@ fn write_row(row: Row, out: &mut [u8]) -> Result<usize, Cause>
 }
 
 fn kind_byte_of(kind: Kind) -> u8
-    ensures { result ≡ kindByte kind }
+    ensures { result ≡ kind_byte kind }
 {
     match kind {
         Kind::Dated => b'D',

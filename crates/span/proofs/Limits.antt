@@ -13,42 +13,42 @@ use Rattle.sheet.specs.declared.row.Row.TheVariants.{Span, Same, Unlike}
 use Rattle.sheet.specs.declared.term.Term.{Term}
 use Rattle.engine.specs.declared.noted.Noted.{Noted}
 use Rattle.engine.specs.Arrangements.{ranks}
-use Rattle.engine.specs.Fitting.{allRowsFit, rowFits}
-use Rattle.engine.specs.Rows.{boundPastLimit, onDated, spansLevel, termsBelow}
+use Rattle.engine.specs.Fitting.{all_rows_fit, row_fits}
+use Rattle.engine.specs.Rows.{bound_past_limit, on_dated, spans_level, terms_below}
 use Rattle.engine.specs.States.{active}
-use Rattle.engine.specs.Terms.{isDatedAt, seatsOf}
-use Rattle.engine.proofs.Seats.{seats-have, seats-within}
-use Rattle.span.specs.Constraints.{constraints, edge, orderEdges, pairEdges, rowEdges}
-use Rattle.span.proofs.Pairs.{all-order}
+use Rattle.engine.specs.Terms.{is_dated_at, seats_of}
+use Rattle.engine.proofs.Seats.{seats_have, seats_within}
+use Rattle.span.specs.Constraints.{constraints, edge, order_edges, pair_edges, row_edges}
+use Rattle.span.proofs.Pairs.{all_order}
 
 -- both ends are seats, and the weight is a bound
 abbrev pub EdgeFits : List ℕ → Edge → Type 0
 EdgeFits ss e = Has ss e.to × Has ss e.from × (neg_ℤ (pos 1000000) ≤ℤ e.weight)
 
-row_fits : (ts : List Term) (r : Row) (rows : List Row) → rowFits ts r ≡ true → All (EdgeFits (seatsOf ts)) (rowEdges rows) → All (EdgeFits (seatsOf ts)) (rowEdges (r ∷ rows))
-row_fits ts (Span i j c) rows f a =
-    let p = and_parts (termsBelow (length ts) (Span i j c)) (not (spansLevel ts (Span i j c)) && not (boundPastLimit (Span i j c))) f in
+row_edges_fit : (ts : List Term) (r : Row) (rows : List Row) → row_fits ts r ≡ true → All (EdgeFits (seats_of ts)) (row_edges rows) → All (EdgeFits (seats_of ts)) (row_edges (r ∷ rows))
+row_edges_fit ts (Span i j c) rows f a =
+    let p = and_parts (terms_below (length ts) (Span i j c)) (not (spans_level ts (Span i j c)) && not (bound_past_limit (Span i j c))) f in
     let b = and_parts (nat_lt i (length ts)) (nat_lt j (length ts)) p.0 in
-    let q = and_parts (not (spansLevel ts (Span i j c))) (not (boundPastLimit (Span i j c))) p.1 in
-    let d = and_parts (isDatedAt ts i) (isDatedAt ts j) (not-false (onDated ts (Span i j c)) (not-true (spansLevel ts (Span i j c)) q.0)) in
-    let w = or_parts (int_lt c (negsuc 999999)) (int_lt (pos 1000000) c) (not-true (boundPastLimit (Span i j c)) q.1) in
+    let q = and_parts (not (spans_level ts (Span i j c))) (not (bound_past_limit (Span i j c))) p.1 in
+    let d = and_parts (is_dated_at ts i) (is_dated_at ts j) (not-false (on_dated ts (Span i j c)) (not-true (spans_level ts (Span i j c)) q.0)) in
+    let w = or_parts (int_lt c (negsuc 999999)) (int_lt (pos 1000000) c) (not-true (bound_past_limit (Span i j c)) q.1) in
     let low : int_lt c (negsuc 999999) ≡ false = w.0 in
     let heavy : neg_ℤ (pos 1000000) ≤ℤ c = grind (arith, ints) in
-    ((seats-have ts i (ltb-true i (length ts) b.0) d.0, seats-have ts j (ltb-true j (length ts) b.1) d.1, heavy), a)
-row_fits ts (Same i j) rows f a = a
-row_fits ts (Unlike i j) rows f a = a
+    ((seats_have ts i (ltb-true i (length ts) b.0) d.0, seats_have ts j (ltb-true j (length ts) b.1) d.1, heavy), a)
+row_edges_fit ts (Same i j) rows f a = a
+row_edges_fit ts (Unlike i j) rows f a = a
 
-rows_fit : (ts : List Term) (ms : List Noted) → allRowsFit ts ms ≡ true → All (EdgeFits (seatsOf ts)) (rowEdges (active ms))
+rows_fit : (ts : List Term) (ms : List Noted) → all_rows_fit ts ms ≡ true → All (EdgeFits (seats_of ts)) (row_edges (active ms))
 rows_fit ts [] f = tt
 rows_fit ts (m ∷ ms) f =
-    let p = and_parts (rowFits ts m.row) (allRowsFit ts ms) f in
+    let p = and_parts (row_fits ts m.row) (all_rows_fit ts ms) f in
     go m.active p.0 (rows_fit ts ms p.1)
   where
-    go : (b : Bool) → rowFits ts m.row ≡ true → All (EdgeFits (seatsOf ts)) (rowEdges (active ms)) → All (EdgeFits (seatsOf ts)) (rowEdges (cond b (m.row ∷ active ms) (active ms)))
-    go true f a = row_fits ts m.row (active ms) f a
+    go : (b : Bool) → row_fits ts m.row ≡ true → All (EdgeFits (seats_of ts)) (row_edges (active ms)) → All (EdgeFits (seats_of ts)) (row_edges (cond b (m.row ∷ active ms) (active ms)))
+    go true f a = row_edges_fit ts m.row (active ms) f a
     go false f a = a
 
-pair_fits : (ss : List ℕ) (s r t q : ℕ) → Has ss s → Has ss t → All (EdgeFits ss) (pairEdges s r t q)
+pair_fits : (ss : List ℕ) (s r t q : ℕ) → Has ss s → Has ss t → All (EdgeFits ss) (pair_edges s r t q)
 pair_fits ss s r t q h k = go (nat_lt r q) (nat_lt q r)
   where
     one : neg_ℤ (pos 1000000) ≤ℤ negsuc 0
@@ -62,20 +62,20 @@ pair_fits ss s r t q h k = go (nat_lt r q) (nat_lt q r)
     go false true = ((k, h, one), tt)
     go false false = ((h, k, none), ((k, h, none), tt))
 
-pub constraints-fit : (ts : List Term) (ms : List Noted) (codes : List ℕ) → allRowsFit ts ms ≡ true → All (EdgeFits (seatsOf ts)) (constraints ts (active ms) codes)
-constraints-fit ts ms codes f =
-    let ss = seatsOf ts in
-    All-append (EdgeFits ss) (rowEdges (active ms)) (orderEdges ss (ranks codes)) (rows_fit ts ms f)
-    (all-order (EdgeFits ss) ss (ranks codes) (λ p q b l m. pair_fits ss (slice_index ss p) (slice_index (ranks codes) p) (slice_index ss q) (slice_index (ranks codes) q) (has_get_or ss p 0 (omega arith)) (has_get_or ss q 0 l)))
+pub constraints_fit : (ts : List Term) (ms : List Noted) (codes : List ℕ) → all_rows_fit ts ms ≡ true → All (EdgeFits (seats_of ts)) (constraints ts (active ms) codes)
+constraints_fit ts ms codes f =
+    let ss = seats_of ts in
+    All-append (EdgeFits ss) (row_edges (active ms)) (order_edges ss (ranks codes)) (rows_fit ts ms f)
+    (all_order (EdgeFits ss) ss (ranks codes) (λ p q b l m. pair_fits ss (slice_index ss p) (slice_index (ranks codes) p) (slice_index ss q) (slice_index (ranks codes) q) (has_get_or ss p 0 (omega arith)) (has_get_or ss q 0 l)))
 
-pub edges-within : (ts : List Term) (es : List Edge) → length ts ≤ 32 → All (EdgeFits (seatsOf ts)) es → Within 32 es
-edges-within ts es l a =
-    All-weaker (EdgeFits (seatsOf ts)) (λ e. (e.to < 32) × (e.from < 32))
-    (λ e f. let x = all-has (λ s. s < length ts) (seatsOf ts) e.to (seats-within ts) f.0 in let y = all-has (λ s. s < length ts) (seatsOf ts) e.from (seats-within ts) f.1 in (omega arith, omega arith))
+pub edges_within : (ts : List Term) (es : List Edge) → length ts ≤ 32 → All (EdgeFits (seats_of ts)) es → Within 32 es
+edges_within ts es l a =
+    All-weaker (EdgeFits (seats_of ts)) (λ e. (e.to < 32) × (e.from < 32))
+    (λ e f. let x = all-has (λ s. s < length ts) (seats_of ts) e.to (seats_within ts) f.0 in let y = all-has (λ s. s < length ts) (seats_of ts) e.from (seats_within ts) f.1 in (omega arith, omega arith))
     es a
 
-pub edges-among : (ss : List ℕ) (es : List Edge) → All (EdgeFits ss) es → Among ss es
-edges-among ss es a = All-weaker (EdgeFits ss) (λ e. Has ss e.to × Has ss e.from) (λ e f. (f.0, f.1)) es a
+pub edges_among : (ss : List ℕ) (es : List Edge) → All (EdgeFits ss) es → Among ss es
+edges_among ss es a = All-weaker (EdgeFits ss) (λ e. Has ss e.to × Has ss e.from) (λ e f. (f.0, f.1)) es a
 
-pub edges-heavier : (ss : List ℕ) (es : List Edge) → All (EdgeFits ss) es → Heavier 1000000 es
-edges-heavier ss es a = All-weaker (EdgeFits ss) (λ e. neg_ℤ (pos 1000000) ≤ℤ e.weight) (λ e f. f.2) es a
+pub edges_heavier : (ss : List ℕ) (es : List Edge) → All (EdgeFits ss) es → Heavier 1000000 es
+edges_heavier ss es a = All-weaker (EdgeFits ss) (λ e. neg_ℤ (pos 1000000) ≤ℤ e.weight) (λ e f. f.2) es a

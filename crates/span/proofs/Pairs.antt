@@ -8,23 +8,23 @@ use Rattle.std.proofs.lemmas.Bool.{cases_order, lt-ltb, le-ltb}
 use Rattle.graph.specs.declared.Edge.{Edge}
 use Rattle.graph.specs.Graph.{EdgeHolds}
 use Rattle.engine.specs.Meaning.{Numbers}
-use Rattle.span.specs.Constraints.{edge, pairEdges, edgesWith, orderEdges}
-use Rattle.span.proofs.Parts.{pair-equal}
+use Rattle.span.specs.Constraints.{edge, pair_edges, edges_with, order_edges}
+use Rattle.span.proofs.Parts.{pair_equal}
 
-pub all-front : {X : Type 0} (P : X → Type 0) (xs ys : List X) → All P (xs ++ ys) → All P xs
-all-front P [] ys a = tt
-all-front P (x ∷ xs) ys a = (a.0, all-front P xs ys a.1)
+pub all_front : {X : Type 0} (P : X → Type 0) (xs ys : List X) → All P (xs ++ ys) → All P xs
+all_front P [] ys a = tt
+all_front P (x ∷ xs) ys a = (a.0, all_front P xs ys a.1)
 
 pub all_back : {X : Type 0} (P : X → Type 0) (xs ys : List X) → All P (xs ++ ys) → All P ys
 all_back P [] ys a = a
 all_back P (x ∷ xs) ys a = all_back P xs ys a.1
 
 -- the edges of a pair, by the order of its ranks
-pair-below : (s r t q : ℕ) → r < q → pairEdges s r t q ≡ edge s t (negsuc 0) ∷ []
-pair-below s r t q l = rw (lt-ltb r q l)
+pair_below : (s r t q : ℕ) → r < q → pair_edges s r t q ≡ edge s t (negsuc 0) ∷ []
+pair_below s r t q l = rw (lt-ltb r q l)
 
-pair-above : (s r t q : ℕ) → q < r → pairEdges s r t q ≡ edge t s (negsuc 0) ∷ []
-pair-above s r t q l = let k : q ≤ r = omega arith in rw (le-ltb r q k, lt-ltb q r l)
+pair_above : (s r t q : ℕ) → q < r → pair_edges s r t q ≡ edge t s (negsuc 0) ∷ []
+pair_above s r t q l = let k : q ≤ r = omega arith in rw (le-ltb r q k, lt-ltb q r l)
 
 -- the numbers of two seats are in the order of their ranks
 pub record PairInOrder (v : Numbers) (s r t q : ℕ) : Type 0 where
@@ -32,27 +32,27 @@ pub record PairInOrder (v : Numbers) (s r t q : ℕ) : Type 0 where
   pub less : r < q → v s <ℤ v t
   pub more : q < r → v t <ℤ v s
 
-pub pair-order : (v : Numbers) (s r t q : ℕ) → All (EdgeHolds v) (pairEdges s r t q) → PairInOrder v s r t q
-pair-order v s r t q a = record {
+pub pair_order : (v : Numbers) (s r t q : ℕ) → All (EdgeHolds v) (pair_edges s r t q) → PairInOrder v s r t q
+pair_order v s r t q a = record {
   same = λ e.
       let l : q ≤ r = omega arith in
       let m : r ≤ q = omega arith in
-      let h = subst (All (EdgeHolds v)) (pair-equal s r t q l m) a in
+      let h = subst (All (EdgeHolds v)) (pair_equal s r t q l m) a in
       let x : v s ≤ℤ (v t +ℤ pos 0) = h.0 in
       let y : v t ≤ℤ (v s +ℤ pos 0) = h.1.0 in
       omega (arith, ints);
   less = λ l.
-      let h = subst (All (EdgeHolds v)) (pair-below s r t q l) a in
+      let h = subst (All (EdgeHolds v)) (pair_below s r t q l) a in
       let x : v s ≤ℤ (v t +ℤ negsuc 0) = h.0 in
       omega (arith, ints);
   more = λ l.
-      let h = subst (All (EdgeHolds v)) (pair-above s r t q l) a in
+      let h = subst (All (EdgeHolds v)) (pair_above s r t q l) a in
       let x : v t ≤ℤ (v s +ℤ negsuc 0) = h.0 in
       omega (arith, ints);
 }
 
-pub order-pair : (v : Numbers) (s r t q : ℕ) → PairInOrder v s r t q → All (EdgeHolds v) (pairEdges s r t q)
-order-pair v s r t q o =
+pub order_pair : (v : Numbers) (s r t q : ℕ) → PairInOrder v s r t q → All (EdgeHolds v) (pair_edges s r t q)
+order_pair v s r t q o =
     elim (cases_order r q) [
       | inl e ↦
           let l : q ≤ r = omega arith in
@@ -60,44 +60,44 @@ order-pair v s r t q o =
           let z : v s ≡ v t = o.same e in
           let x : v s ≤ℤ (v t +ℤ pos 0) = omega (arith, ints) in
           let y : v t ≤ℤ (v s +ℤ pos 0) = omega (arith, ints) in
-          subst (All (EdgeHolds v)) (sym (pair-equal s r t q l m)) (x, (y, tt))
+          subst (All (EdgeHolds v)) (sym (pair_equal s r t q l m)) (x, (y, tt))
       | inr k ↦ elim k [
         | inl l ↦
             let z : v s <ℤ v t = o.less l in
             let x : v s ≤ℤ (v t +ℤ negsuc 0) = omega (arith, ints) in
-            subst (All (EdgeHolds v)) (sym (pair-below s r t q l)) (x, tt)
+            subst (All (EdgeHolds v)) (sym (pair_below s r t q l)) (x, tt)
         | inr l ↦
             let z : v t <ℤ v s = o.more l in
             let x : v t ≤ℤ (v s +ℤ negsuc 0) = omega (arith, ints) in
-            subst (All (EdgeHolds v)) (sym (pair-above s r t q l)) (x, tt)
+            subst (All (EdgeHolds v)) (sym (pair_above s r t q l)) (x, tt)
       ]
     ]
 
 -- each pair of placed seats, an earlier and a later one
 module _ (P : Edge → Type 0) where
-  with_at : (s r : ℕ) (ss rs : List ℕ) (q : ℕ) → All P (edgesWith s r ss rs) → q < length ss → q < length rs → All P (pairEdges s r (slice_index ss q) (slice_index rs q))
+  with_at : (s r : ℕ) (ss rs : List ℕ) (q : ℕ) → All P (edges_with s r ss rs) → q < length ss → q < length rs → All P (pair_edges s r (slice_index ss q) (slice_index rs q))
   with_at s r [] rs q a l m = absurd (omega arith)
   with_at s r (t ∷ ss) [] q a l m = absurd (omega arith)
-  with_at s r (t ∷ ss) (u ∷ rs) zero a l m = all-front P (pairEdges s r t u) (edgesWith s r ss rs) a
-  with_at s r (t ∷ ss) (u ∷ rs) (suc q) a l m = with_at s r ss rs q (all_back P (pairEdges s r t u) (edgesWith s r ss rs) a) (omega arith) (omega arith)
+  with_at s r (t ∷ ss) (u ∷ rs) zero a l m = all_front P (pair_edges s r t u) (edges_with s r ss rs) a
+  with_at s r (t ∷ ss) (u ∷ rs) (suc q) a l m = with_at s r ss rs q (all_back P (pair_edges s r t u) (edges_with s r ss rs) a) (omega arith) (omega arith)
 
-  pub order-at : (ss rs : List ℕ) (p q : ℕ) → All P (orderEdges ss rs) → p < q → q < length ss → q < length rs → All P (pairEdges (slice_index ss p) (slice_index rs p) (slice_index ss q) (slice_index rs q))
-  order-at [] rs p q a b l m = absurd (omega arith)
-  order-at (s ∷ ss) [] p q a b l m = absurd (omega arith)
-  order-at (s ∷ ss) (r ∷ rs) zero zero a b l m = absurd (omega arith)
-  order-at (s ∷ ss) (r ∷ rs) zero (suc q) a b l m = with_at s r ss rs q (all-front P (edgesWith s r ss rs) (orderEdges ss rs) a) (omega arith) (omega arith)
-  order-at (s ∷ ss) (r ∷ rs) (suc p) zero a b l m = absurd (omega arith)
-  order-at (s ∷ ss) (r ∷ rs) (suc p) (suc q) a b l m = order-at ss rs p q (all_back P (edgesWith s r ss rs) (orderEdges ss rs) a) (omega arith) (omega arith) (omega arith)
+  pub order_at : (ss rs : List ℕ) (p q : ℕ) → All P (order_edges ss rs) → p < q → q < length ss → q < length rs → All P (pair_edges (slice_index ss p) (slice_index rs p) (slice_index ss q) (slice_index rs q))
+  order_at [] rs p q a b l m = absurd (omega arith)
+  order_at (s ∷ ss) [] p q a b l m = absurd (omega arith)
+  order_at (s ∷ ss) (r ∷ rs) zero zero a b l m = absurd (omega arith)
+  order_at (s ∷ ss) (r ∷ rs) zero (suc q) a b l m = with_at s r ss rs q (all_front P (edges_with s r ss rs) (order_edges ss rs) a) (omega arith) (omega arith)
+  order_at (s ∷ ss) (r ∷ rs) (suc p) zero a b l m = absurd (omega arith)
+  order_at (s ∷ ss) (r ∷ rs) (suc p) (suc q) a b l m = order_at ss rs p q (all_back P (edges_with s r ss rs) (order_edges ss rs) a) (omega arith) (omega arith) (omega arith)
 
-  all-with : (s r : ℕ) (ss rs : List ℕ) → ((q : ℕ) → q < length ss → q < length rs → All P (pairEdges s r (slice_index ss q) (slice_index rs q))) → All P (edgesWith s r ss rs)
-  all-with s r [] rs f = tt
-  all-with s r (t ∷ ss) [] f = tt
-  all-with s r (t ∷ ss) (u ∷ rs) f = All-append P (pairEdges s r t u) (edgesWith s r ss rs) (f 0 (omega arith) (omega arith)) (all-with s r ss rs (λ q l m. f (suc q) (omega arith) (omega arith)))
+  all_with : (s r : ℕ) (ss rs : List ℕ) → ((q : ℕ) → q < length ss → q < length rs → All P (pair_edges s r (slice_index ss q) (slice_index rs q))) → All P (edges_with s r ss rs)
+  all_with s r [] rs f = tt
+  all_with s r (t ∷ ss) [] f = tt
+  all_with s r (t ∷ ss) (u ∷ rs) f = All-append P (pair_edges s r t u) (edges_with s r ss rs) (f 0 (omega arith) (omega arith)) (all_with s r ss rs (λ q l m. f (suc q) (omega arith) (omega arith)))
 
-  pub all-order : (ss rs : List ℕ) → ((p q : ℕ) → p < q → q < length ss → q < length rs → All P (pairEdges (slice_index ss p) (slice_index rs p) (slice_index ss q) (slice_index rs q))) → All P (orderEdges ss rs)
-  all-order [] rs f = tt
-  all-order (s ∷ ss) [] f = tt
-  all-order (s ∷ ss) (r ∷ rs) f =
-      All-append P (edgesWith s r ss rs) (orderEdges ss rs)
-      (all-with s r ss rs (λ q l m. f 0 (suc q) (omega arith) (omega arith) (omega arith)))
-      (all-order ss rs (λ p q b l m. f (suc p) (suc q) (omega arith) (omega arith) (omega arith)))
+  pub all_order : (ss rs : List ℕ) → ((p q : ℕ) → p < q → q < length ss → q < length rs → All P (pair_edges (slice_index ss p) (slice_index rs p) (slice_index ss q) (slice_index rs q))) → All P (order_edges ss rs)
+  all_order [] rs f = tt
+  all_order (s ∷ ss) [] f = tt
+  all_order (s ∷ ss) (r ∷ rs) f =
+      All-append P (edges_with s r ss rs) (order_edges ss rs)
+      (all_with s r ss rs (λ q l m. f 0 (suc q) (omega arith) (omega arith) (omega arith)))
+      (all_order ss rs (λ p q b l m. f (suc p) (suc q) (omega arith) (omega arith) (omega arith)))

@@ -6,36 +6,36 @@ use Rattle.sheet.specs.declared.row.Row.{Row}
 use Rattle.sheet.specs.declared.row.Row.TheVariants.{Span, Same, Unlike}
 use Rattle.sheet.specs.declared.term.Term.{Term}
 use Rattle.engine.specs.Arrangements.{ranks}
-use Rattle.engine.specs.Terms.{seatsOf}
+use Rattle.engine.specs.Terms.{seats_of}
 
 abbrev pub edge : ℕ → ℕ → ℤ → Edge
 edge to from weight = record { to = to; from = from; weight = weight }
 
 -- each span row is an edge; the other rows do not count
-abbrev pub rowEdges : List Row → List Edge
-rowEdges [] = []
-rowEdges (Span i j c ∷ rows) = edge i j c ∷ rowEdges rows
-rowEdges (Same i j ∷ rows) = rowEdges rows
-rowEdges (Unlike i j ∷ rows) = rowEdges rows
+abbrev pub row_edges : List Row → List Edge
+row_edges [] = []
+row_edges (Span i j c ∷ rows) = edge i j c ∷ row_edges rows
+row_edges (Same i j ∷ rows) = row_edges rows
+row_edges (Unlike i j ∷ rows) = row_edges rows
 
 -- the terms s and t have seats with the ranks r and q: the number of the lower rank is smaller by 1 at least, and in one block both are equal
-abbrev pub pairEdges : ℕ → ℕ → ℕ → ℕ → List Edge
-pairEdges s r t q =
+abbrev pub pair_edges : ℕ → ℕ → ℕ → ℕ → List Edge
+pair_edges s r t q =
     cond (nat_lt r q) (edge s t (negsuc 0) ∷ [])
     (cond (nat_lt q r) (edge t s (negsuc 0) ∷ [])
     (edge s t (pos 0) ∷ edge t s (pos 0) ∷ []))
 
 -- the term s with each of the seats ss
-abbrev pub edgesWith : ℕ → ℕ → List ℕ → List ℕ → List Edge
-edgesWith s r [] rs = []
-edgesWith s r (t ∷ ss) [] = []
-edgesWith s r (t ∷ ss) (q ∷ rs) = pairEdges s r t q ++ edgesWith s r ss rs
+abbrev pub edges_with : ℕ → ℕ → List ℕ → List ℕ → List Edge
+edges_with s r [] rs = []
+edges_with s r (t ∷ ss) [] = []
+edges_with s r (t ∷ ss) (q ∷ rs) = pair_edges s r t q ++ edges_with s r ss rs
 
 -- each placed seat with each later one
-abbrev pub orderEdges : List ℕ → List ℕ → List Edge
-orderEdges [] rs = []
-orderEdges (s ∷ ss) [] = []
-orderEdges (s ∷ ss) (r ∷ rs) = edgesWith s r ss rs ++ orderEdges ss rs
+abbrev pub order_edges : List ℕ → List ℕ → List Edge
+order_edges [] rs = []
+order_edges (s ∷ ss) [] = []
+order_edges (s ∷ ss) (r ∷ rs) = edges_with s r ss rs ++ order_edges ss rs
 
 abbrev pub constraints : List Term → List Row → List ℕ → List Edge
-constraints ts rows codes = rowEdges rows ++ orderEdges (seatsOf ts) (ranks codes)
+constraints ts rows codes = row_edges rows ++ order_edges (seats_of ts) (ranks codes)

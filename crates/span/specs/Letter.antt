@@ -2,5 +2,5 @@
 use Rattle.std.specs.Prelude.{ℕ}
 
 -- S
-abbrev pub spanLetter : ℕ
-spanLetter = 83
+abbrev pub span_letter : ℕ
+span_letter = 83

@@ -2,9 +2,9 @@
 ghost use Rattle.std.specs.Prelude.{◌≡◌, true, length, IfOk};
 ghost use Rattle.engine.specs.Holding.{held};
 ghost use Rattle.engine.specs.Rules.{SpanAllowed};
-ghost use Rattle.engine.specs.States.{Completion, newState};
-ghost use Rattle.engine.specs.Terms.{seatsOf};
-ghost use Rattle.span.specs.Decisions.{DecisionOf, constraintsOf, distancesOf, settlesOf};
+ghost use Rattle.engine.specs.States.{Completion, new_state};
+ghost use Rattle.engine.specs.Terms.{seats_of};
+ghost use Rattle.span.specs.Decisions.{DecisionOf, constraints_of, distances_of, settles_of};
 ghost use Rattle.span.specs.Lists.{listed};
 
 use crate::constraints::{list_order, list_rows};
@@ -18,7 +18,7 @@ use std::alloc::{AllocError, Global};
 impl Span {
     // A new engine, with all the room that it will ever need.
     pub fn new(heap: Global) -> Result<Span, AllocError>
-        ensures { IfOk result (λ e. held e.held ≡ newState) }
+        ensures { IfOk result (λ e. held e.held ≡ new_state) }
     {
         let held = Holdings::new(heap)?;
         Ok(Span { held })
@@ -37,8 +37,8 @@ impl Span {
 
     // The distance of each term after as many rounds as there are dated terms, and whether no edge can lower one any more.
     pub(crate) fn settle_terms(&self) -> (bool, [i64; 32])
-        ensures settled { result.0 ≡ settlesOf (held self.now.held) }
-        ensures distances { result.1 ≡ distancesOf (held self.now.held) }
+        ensures settled { result.0 ≡ settles_of (held self.now.held) }
+        ensures distances { result.1 ≡ distances_of (held self.now.held) }
     {
         let list = self.list_constraints();
         let mut distances = [0; 32];
@@ -48,14 +48,14 @@ impl Span {
 
     // As many rounds as there are dated terms: a walk that repeats no term has fewer edges.
     fn count_rounds(&self) -> usize
-        ensures { result ≡ length (seatsOf (held self.now.held).terms) }
+        ensures { result ≡ length (seats_of (held self.now.held).terms) }
     {
         self.held.seats().len()
     }
 
     // The constraints of the active span rows and of the codes placed.
     fn list_constraints(&self) -> EdgeList
-        ensures { listed result ≡ constraintsOf (held self.now.held) }
+        ensures { listed result ≡ constraints_of (held self.now.held) }
     {
         let codes = self.held.codes();
         let ranks = rank_seats(codes);

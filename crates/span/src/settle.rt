@@ -1,6 +1,6 @@
 // Bellman and Ford's rounds over the edges.
 ghost use Rattle.std.specs.Prelude.{◌≡◌, ◌≤◌, length};
-ghost use Rattle.graph.specs.Graph.{Within, rounds, zeros, isStable};
+ghost use Rattle.graph.specs.Graph.{Within, rounds, zeros, is_stable};
 
 use graph::Edge;
 
@@ -11,7 +11,7 @@ pub(crate) fn settle(edges: &[Edge], distances: &mut [i64], limit: usize) -> boo
     requires short { limit ≤ 8 }
     requires start { distances.old ≡ zeros (length distances.old) }
     ensures made { distances.new ≡ rounds limit edges.now (zeros (length distances.old)) }
-    ensures told { result ≡ isStable edges.now (rounds limit edges.now (zeros (length distances.old))) }
+    ensures told { result ≡ is_stable edges.now (rounds limit edges.now (zeros (length distances.old))) }
 {
     let mut settled = false;
     'rounds: for round in 0..=limit {

@@ -2,7 +2,7 @@
 ghost use Rattle.std.specs.Prelude.{◌≡◌, ℕ, ◌-◌, ◌≤◌, Bool, List, ◌++◌, length, replicate, pos, ◌-ℤ◌};
 ghost use Rattle.engine.specs.Dates.{GreatestDates};
 ghost use Rattle.graph.specs.Graph.{at};
-ghost use Rattle.span.specs.Dating.{InLimits, countsSpans, fromZero};
+ghost use Rattle.span.specs.Dating.{InLimits, counts_spans, from_zero};
 ghost use Rattle.std.specs.List.{AllByRecursion as All};
 ghost use Rattle.engine.proofs.Laws.{same_greatest_dates};
 
@@ -27,7 +27,7 @@ fn count_from_zero(seats: &[u8], distances: &[i64]) -> [i64; 8]
     requires long { length distances.now ≡ 32 }
     requires zero { InLimits distances.now 0 }
     requires each { All (InLimits distances.now) seats.now }
-    ensures { result ≡ fromZero distances.now seats.now ++ replicate (8 - length seats.now) (pos 0) }
+    ensures { result ≡ from_zero distances.now seats.now ++ replicate (8 - length seats.now) (pos 0) }
 {
     let mut dates = [0; 8];
     for p in 0..seats.len() {
@@ -38,7 +38,7 @@ fn count_from_zero(seats: &[u8], distances: &[i64]) -> [i64; 8]
 
 // It counts the span rows.
 impl Dating for Span {
-    ghost counts = { λ k. countsSpans k };
+    ghost counts = { λ k. counts_spans k };
 
     ghost picks = { λ _ ts rows codes dates. GreatestDates ts rows codes dates };
 

@@ -1,6 +1,6 @@
 use Rattle.std.proofs.Common.{◌≡◌, ◌+◌, ◌-◌, ◌/◌, ◌<◌, length, get_or, take, set, ap, ◌∙◌, arith}
 use Rattle.engine.specs.Arrangements.{ranks}
-use Rattle.engine.proofs.RankArrays.{ranked, low-item, low-next, front-is, opened, joined, length-ranked, all-ranked}
+use Rattle.engine.proofs.RankArrays.{ranked, low_item, low_next, front_is, opened, joined, length_ranked, all_ranked}
 use Rattle.engine.proofs.arrangement.rank_seats.Goals as goal
 use Rattle.engine.proofs.arrangement.rank_seats.Goals.{then-code-eq0, else-code-eq0}
 
@@ -10,9 +10,9 @@ open_block-requires c i h =
     let k = c.loop-k.k in
     let l : k < length cs = omega arith in
     let few : k < 8 = omega arith in
-    let front : take (k - 0) c.loop-k.ranks ≡ ranks (take k cs) = front-is cs k l few c.loop-k.ranks c.loop-k.invariant.1 in
+    let front : take (k - 0) c.loop-k.ranks ≡ ranks (take k cs) = front_is cs k l few c.loop-k.ranks c.loop-k.invariant.1 in
     let same : get_or (take (k - 0) c.loop-k.ranks) i 0 ≡ get_or (ranks (take k cs)) i 0 = ap (λ rs. get_or rs i 0) front in
-    omega (arith, low-item (127 + k) (ranks (take k cs)) i c.loop-k.invariant.2)
+    omega (arith, low_item (127 + k) (ranks (take k cs)) i c.loop-k.invariant.2)
 
 pub loop-k-preserved : goal.loop-k-preserved
 loop-k-preserved c =
@@ -26,7 +26,7 @@ loop-k-preserved c =
       | else-code-eq0 w ↦ joined cs k l few c.loop-k.ranks c.if-code-eq0.ranks c.loop-k.invariant.1 w.if-code-eq0.false w.ranks-is
     ] in
     let small : get_or cs k 0 < 256 = omega (arith, c.type_inv.codes k) in
-    (ap length next ∙ length-ranked cs (k + 1) (omega arith) (omega arith), next, low-next cs k l few small c.loop-k.invariant.2)
+    (ap length next ∙ length_ranked cs (k + 1) (omega arith) (omega arith), next, low_next cs k l few small c.loop-k.invariant.2)
 
 pub returns : goal.returns
-returns c = c.loop-k.invariant.1 ∙ all-ranked c.args.codes.now c.loop-k.k (omega arith)
+returns c = c.loop-k.invariant.1 ∙ all_ranked c.args.codes.now c.loop-k.k (omega arith)

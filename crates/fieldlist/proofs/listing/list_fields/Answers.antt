@@ -2,10 +2,10 @@ use Rattle.std.proofs.Common.{◌≡◌, ◌+◌, ◌-◌, Bool, true, false, co
 use Rattle.std.proofs.lemmas.List.{nil_from_length}
 use Rattle.std.proofs.lemmas.Slice.{pushed}
 use Rattle.sheet.specs.declared.fault.Cause.TheVariants.{CutShort}
-use Rattle.sheet.specs.Causes.{faultIn, readerLetter}
+use Rattle.sheet.specs.Causes.{fault_in, reader_letter}
 use Rattle.sheet.specs.Fields.{value_of}
 use Rattle.sheet.specs.Parsing.{parse}
-use Rattle.fieldlist.specs.Listing.{Lines, isTerm, none}
+use Rattle.fieldlist.specs.Listing.{Lines, is_term, none}
 use Rattle.fieldlist.proofs.Numbering.{lines_more}
 use Rattle.fieldlist.proofs.Walking.{took}
 use Rattle.fieldlist.proofs.listing.list_fields.Goals as goal
@@ -26,7 +26,7 @@ loop-rest-preserved c =
     let room = c.loop-rest.invariant.1 in
     let joined = pushed c.as_str.result.now refl c.in_ok-push_str.was c.push_str.ensures.bytes in
     let line = c.as_str.ensures.value ∙ c.in_ok-line.ensures.ok in
-    let step : (b : Bool) → b ≡ isTerm f → c.if-is_term.terms ≡ c.loop-rest.terms + cond b 1 0 → c.if-is_term.rows ≡ c.loop-rest.rows + cond b 0 1 → c.if-is_term.index ≡ cond b (c.loop-rest.terms + 1) c.loop-rest.rows → Lines s c.if-is_term.terms c.if-is_term.rows (string_bytes c.push_str.new.self) u =
+    let step : (b : Bool) → b ≡ is_term f → c.if-is_term.terms ≡ c.loop-rest.terms + cond b 1 0 → c.if-is_term.rows ≡ c.loop-rest.rows + cond b 0 1 → c.if-is_term.index ≡ cond b (c.loop-rest.terms + 1) c.loop-rest.rows → Lines s c.if-is_term.terms c.if-is_term.rows (string_bytes c.push_str.new.self) u =
     λ b kind terms rows index. lines_more s t u (string_bytes c.loop-rest.text) (string_bytes c.push_str.new.self) c.as_str.result.now c.loop-rest.terms c.loop-rest.rows c.if-is_term.terms c.if-is_term.rows c.if-is_term.index f b c.loop-rest.invariant.0 k.read k.rest kind terms rows index line joined in (
       elim c.if-is_term.branch [
         | then-is_term w ↦ step true (sym w.if-is_term.true ∙ c.is_term.ensures) w.terms-is (omega (arith, w.rows-is)) w.index-is
@@ -43,7 +43,7 @@ returns c =
       terms = c.loop-rest.terms;
       rows = c.loop-rest.rows;
       left = t;
-      fault = faultIn readerLetter CutShort;
+      fault = fault_in reader_letter CutShort;
       lines = c.loop-rest.invariant.0;
       stops = ap parse (nil_from_length t none_left);
     }

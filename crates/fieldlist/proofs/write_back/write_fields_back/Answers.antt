@@ -2,11 +2,11 @@ use Rattle.std.proofs.Common.{◌≡◌, ◌+◌, ◌-◌, ◌≤◌, length, ta
 use Rattle.std.proofs.lemmas.List.{length-drop, length-take, take_rest}
 use Rattle.std.proofs.lemmas.Bool.{both_ways}
 use Rattle.sheet.specs.Fields.{value_of}
-use Rattle.fieldlist.proofs.Walking.{start, took, step, alike, copy, whole, all-copied, none-copied}
+use Rattle.fieldlist.proofs.Walking.{start, took, step, alike, copy, whole, all_copied, none_copied}
 use Rattle.fieldlist.proofs.write_back.write_fields_back.Goals as goal
 
 pub loop-rest-init : goal.loop-rest-init
-loop-rest-init c = (start c.args.sheet.now, refl, omega arith, none-copied c.args.sheet.now c.args.buffer.now c.requires)
+loop-rest-init c = (start c.args.sheet.now, refl, omega arith, none_copied c.args.sheet.now c.args.buffer.now c.requires)
 
 pub loop-rest-preserved-then-is_written_alike : goal.loop-rest-preserved-then-is_written_alike
 loop-rest-preserved-then-is_written_alike c =
@@ -50,4 +50,4 @@ returns c =
     let none_left : length c.loop-rest.rest.now ≡ 0 = search rules in
     let w = whole c.args.sheet.now c.loop-rest.rest.now c.loop-rest.fields c.loop-rest.invariant.0 none_left in
     let bytes = c.loop-rest.invariant.2 in
-    (w.0, w.1, w.2, refl, c.loop-rest.invariant.1, omega arith, all-copied c.args.sheet.now c.loop-rest.rest.now c.loop-rest.buffer none_left c.loop-rest.invariant.3)
+    (w.0, w.1, w.2, refl, c.loop-rest.invariant.1, omega arith, all_copied c.args.sheet.now c.loop-rest.rest.now c.loop-rest.buffer none_left c.loop-rest.invariant.3)

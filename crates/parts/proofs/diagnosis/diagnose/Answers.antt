@@ -1,14 +1,14 @@
 use Rattle.std.proofs.Common.{◌≡◌, true, false, length, vec_items, vec_len, ap, ◌∙◌, subst, arith}
 use Rattle.engine.specs.Dates.{Dated, Undated}
 use Rattle.parts.specs.First.{FirstPlaced}
-use Rattle.parts.proofs.Diagnosing.{dates-are, few-seats, met, unmet}
+use Rattle.parts.proofs.Diagnosing.{dates_are, few_seats, met, unmet}
 use Rattle.parts.proofs.diagnosis.diagnose.Goals as goal
 
 pub place_first-requires : goal.place_first-requires
 place_first-requires g c =
     let f = g.E.Engine in
     let none : vec_len c.args.codes ≡ 0 = c.args.codes.ok.0 ∙ ap length c.requires.no_codes in
-    record { few = few-seats f.LETTER c.args.sheet.now (f.state c.note_sheet.new.engine) (vec_items c.note_sheet.new.seats) c.in-Ok.ensures.notes; room = omega (arith, c.requires.code_room) }
+    record { few = few_seats f.LETTER c.args.sheet.now (f.state c.note_sheet.new.engine) (vec_items c.note_sheet.new.seats) c.in-Ok.ensures.notes; room = omega (arith, c.requires.code_room) }
 
 pub returns-then-not-place_first : goal.returns-then-not-place_first
 returns-then-not-place_first g c =
@@ -50,4 +50,4 @@ returns-in-Err-dates g c =
     let codes = vec_items c.place_first.new.codes in
     let n = f.setting c.note_sheet.new.engine in
     let u : Undated (f.rule n) t f.LETTER c.in-Err-dates.field-0 = subst (λ m. Undated (f.rule m) t f.LETTER c.in-Err-dates.field-0) c.place_first.ensures.keeps c.in-Err-dates.ensures in
-    absurd (dates-are (f.rule n) s t held codes f.LETTER c.in-Err-dates.field-0 c.if-not-place_first.ensures.places u)
+    absurd (dates_are (f.rule n) s t held codes f.LETTER c.in-Err-dates.field-0 c.if-not-place_first.ensures.places u)

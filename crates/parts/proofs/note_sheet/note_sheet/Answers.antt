@@ -1,8 +1,8 @@
 use Rattle.std.proofs.Common.{◌≡◌, ◌+◌, ◌≤◌, [], ◌∷◌, length, Err, vec_items, sym, refl, ap, ◌∙◌, arith, rules}
 use Rattle.sheet.specs.Fields.{value_of}
 use Rattle.sheet.specs.Parsing.{outcome, parse}
-use Rattle.parts.specs.Noting.{frontAnswer, is_row}
-use Rattle.parts.proofs.Walking.{first-listed, refused, room, row_counts, short, start, step, term-counts, took, whole}
+use Rattle.parts.specs.Noting.{front_answer, is_row}
+use Rattle.parts.proofs.Walking.{first_listed, refused, room, row_counts, short, start, step, term_counts, took, whole}
 use Rattle.parts.proofs.note_sheet.note_sheet.Goals as goal
 
 pub loop-rest-init : goal.loop-rest-init
@@ -10,7 +10,7 @@ loop-rest-init g c =
     let f = g.E.Engine in
     let cap = c.requires.room in
     let new = vec_items c.push_reserved.new.self in
-    let listed : new ≡ 0 ∷ [] = first-listed (vec_items c.args.seats.now) new c.requires.bare c.push_reserved.ensures.items in
+    let listed : new ≡ 0 ∷ [] = first_listed (vec_items c.args.seats.now) new c.requires.bare c.push_reserved.ensures.items in
     (start f.LETTER c.args.sheet.now (f.state c.renew.new.self) new c.renew.ensures.leaves listed, refl, omega (arith, c.push_reserved.ensures.capacity))
 
 pub note_field-requires : goal.note_field-requires
@@ -55,7 +55,7 @@ loop-rest-preserved-then-not-has_row g c =
     let k = took t u c.read_field.result.0 c.in-Ok.field c.in-Ok.is e.answer e.rest e.used in
     let row = c.is_row-has_row.ensures in
     let cap = c.loop-rest.invariant.2 in (
-      step f.LETTER c.args.sheet.now t (f.state c.loop-rest.engine) c.loop-rest.terms c.loop-rest.has_row (vec_items c.loop-rest.seats) c.loop-rest.invariant.0 v c.in-Ok-note_field.ensures.answers u (f.state c.note_field.new.engine) (c.loop-rest.terms + 1) c.is_row-has_row.result (vec_items c.list_seat.new.seats) k c.note_field.ensures.leaves (term-counts c.loop-rest.terms (is_row v) (sym row ∙ c.if-not-has_row.true)) row c.list_seat.ensures.items,
+      step f.LETTER c.args.sheet.now t (f.state c.loop-rest.engine) c.loop-rest.terms c.loop-rest.has_row (vec_items c.loop-rest.seats) c.loop-rest.invariant.0 v c.in-Ok-note_field.ensures.answers u (f.state c.note_field.new.engine) (c.loop-rest.terms + 1) c.is_row-has_row.result (vec_items c.list_seat.new.seats) k c.note_field.ensures.leaves (term_counts c.loop-rest.terms (is_row v) (sym row ∙ c.if-not-has_row.true)) row c.list_seat.ensures.items,
       c.note_field.ensures.keeps ∙ c.loop-rest.invariant.1,
       omega (arith, c.list_seat.ensures.capacity),
     )
@@ -66,7 +66,7 @@ returns-in-Err g c =
     let t = c.loop-rest.rest.now in
     let q = f.state c.loop-rest.engine in
     let some : length t ≡ 0 → ⊥ = search rules in
-    let stops : frontAnswer f.LETTER q (parse t) ≡ Err c.in-Err.fault = ap (frontAnswer f.LETTER q) (sym c.read_field.ensures.answer ∙ ap outcome c.in-Err.is) in
+    let stops : front_answer f.LETTER q (parse t) ≡ Err c.in-Err.fault = ap (front_answer f.LETTER q) (sym c.read_field.ensures.answer ∙ ap outcome c.in-Err.is) in
     record {
       notes = refused f.LETTER c.args.sheet.now t q c.loop-rest.terms c.loop-rest.has_row (vec_items c.loop-rest.seats) c.loop-rest.invariant.0 (f.state c.refuse.new.engine) c.in-Err.fault c.refuse.result some stops c.refuse.ensures.answers c.refuse.ensures.leaves;
       keeps = c.refuse.ensures.keeps ∙ c.loop-rest.invariant.1 ∙ c.renew.ensures.keeps;
@@ -78,7 +78,7 @@ returns-in-Err-note_field g c =
     let t = c.loop-rest.rest.now in
     let q = f.state c.loop-rest.engine in
     let some : length t ≡ 0 → ⊥ = search rules in
-    let stops : frontAnswer f.LETTER q (parse t) ≡ Err c.in-Err-note_field.fault = ap (frontAnswer f.LETTER q) (sym c.read_field.ensures.answer ∙ ap outcome c.in-Ok.is) ∙ sym c.in-Err-note_field.ensures.answers in
+    let stops : front_answer f.LETTER q (parse t) ≡ Err c.in-Err-note_field.fault = ap (front_answer f.LETTER q) (sym c.read_field.ensures.answer ∙ ap outcome c.in-Ok.is) ∙ sym c.in-Err-note_field.ensures.answers in
     record {
       notes = refused f.LETTER c.args.sheet.now t q c.loop-rest.terms c.loop-rest.has_row (vec_items c.loop-rest.seats) c.loop-rest.invariant.0 (f.state c.refuse-in-Err-note_field.new.engine) c.in-Err-note_field.fault c.refuse-in-Err-note_field.result some stops c.refuse-in-Err-note_field.ensures.answers c.refuse-in-Err-note_field.ensures.leaves;
       keeps = c.refuse-in-Err-note_field.ensures.keeps ∙ c.note_field.ensures.keeps ∙ c.loop-rest.invariant.1 ∙ c.renew.ensures.keeps;

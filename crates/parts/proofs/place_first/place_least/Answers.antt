@@ -1,8 +1,8 @@
 use Rattle.std.proofs.Common.{◌≡◌, ◌<◌, None, ◌∙◌, arith}
 use Rattle.std.proofs.lemmas.Bool.{both_ways}
-use Rattle.engine.specs.Calls.{onPlace}
-use Rattle.engine.proofs.Codes.{blocks-le}
-use Rattle.engine.proofs.Using.{accepted-is, refused-is}
+use Rattle.engine.specs.Calls.{on_place}
+use Rattle.engine.proofs.Codes.{blocks_le}
+use Rattle.engine.proofs.Using.{accepted_is, refused_is}
 use Rattle.parts.proofs.Trying.{found, next, refused, room}
 use Rattle.parts.proofs.place_first.place_least.Goals as goal
 
@@ -13,7 +13,7 @@ returns-in-Err g c =
     let code = c.loop-engine.code in
     let fault = c.in-Err.field-0 in
     record {
-      places = refused f c.args.engine.now x code c.loop-engine.invariant c.place.new.self fault.cause (refused-is f.LETTER (onPlace (f.state x) code).refusal fault c.in-Err.ensures.answers) c.place.ensures.leaves;
+      places = refused f c.args.engine.now x code c.loop-engine.invariant c.place.new.self fault.cause (refused_is f.LETTER (on_place (f.state x) code).refusal fault c.in-Err.ensures.answers) c.place.ensures.leaves;
       keeps = c.place.ensures.keeps ∙ c.loop-engine.invariant.kept;
     }
 
@@ -22,7 +22,7 @@ returns-then-open g c =
     let f = g.E.Engine in
     let x = c.loop-engine.engine in
     let code = c.loop-engine.code in
-    let ok : (onPlace (f.state x) code).refusal ≡ None = accepted-is f.LETTER (onPlace (f.state x) code).refusal tt c.in-Ok.ensures.answers in
+    let ok : (on_place (f.state x) code).refusal ≡ None = accepted_is f.LETTER (on_place (f.state x) code).refusal tt c.in-Ok.ensures.answers in
     record {
       places = found f c.args.engine.now x code c.loop-engine.invariant c.place.new.self ok c.place.ensures.leaves c.place.ensures.keeps (c.open.ensures.sound c.if-open.true);
       keeps = c.place.ensures.keeps ∙ c.loop-engine.invariant.kept;
@@ -34,10 +34,10 @@ overflow_add-code g c =
     let a = c.args.engine.now in
     let x = c.loop-engine.engine in
     let code = c.loop-engine.code in
-    let ok : (onPlace (f.state x) code).refusal ≡ None = accepted-is f.LETTER (onPlace (f.state x) code).refusal tt c.in-Ok.ensures.answers in
+    let ok : (on_place (f.state x) code).refusal ≡ None = accepted_is f.LETTER (on_place (f.state x) code).refusal tt c.in-Ok.ensures.answers in
     let w = room f a x code c.loop-engine.invariant c.place.new.self ok c.place.ensures.leaves c.place.ensures.keeps in
     let few = c.requires in
-    let less = blocks-le (f.state a).codes in
+    let less = blocks_le (f.state a).codes in
     let small : code < 16 = omega (arith, w.0, w.1) in
     omega arith
 
@@ -46,5 +46,5 @@ loop-engine-preserved g c =
     let f = g.E.Engine in
     let x = c.loop-engine.engine in
     let code = c.loop-engine.code in
-    let ok : (onPlace (f.state x) code).refusal ≡ None = accepted-is f.LETTER (onPlace (f.state x) code).refusal tt c.in-Ok.ensures.answers in
+    let ok : (on_place (f.state x) code).refusal ≡ None = accepted_is f.LETTER (on_place (f.state x) code).refusal tt c.in-Ok.ensures.answers in
     next f c.args.engine.now x code c.loop-engine.invariant c.place.new.self ok c.place.ensures.leaves c.place.ensures.keeps c.lift.new.self (λ k. both_ways c.open.result c.if-open.false (c.open.ensures.complete k)) c.lift.ensures.leaves c.lift.ensures.keeps

@@ -1,6 +1,6 @@
 use Rattle.std.proofs.Common.{sym, ◌∙◌}
 use Rattle.parts.proofs.Listing.{listable}
-use Rattle.parts.proofs.Reporting.{report-once}
+use Rattle.parts.proofs.Reporting.{report_once}
 use Rattle.parts.proofs.report.report_sheet.Goals as goal
 
 pub write_lines-requires : goal.write_lines-requires
@@ -19,5 +19,5 @@ returns-in-Ok-write_lines g c =
       keeps = c.diagnose-diagnosis.ensures.keeps;
       tells = told;
       lists = text;
-      only = λ t d said. report-once (f.rule n) g.E.Dating.counts (g.E.Dating.picks n) f.LETTER c.args.sheet.now (g.met.E.Dating.once n) t (f.state c.diagnose-diagnosis.new.engine) d c.diagnose-diagnosis.result said told ∙ sym text;
+      only = λ t d said. report_once (f.rule n) g.E.Dating.counts (g.E.Dating.picks n) f.LETTER c.args.sheet.now (g.met.E.Dating.once n) t (f.state c.diagnose-diagnosis.new.engine) d c.diagnose-diagnosis.result said told ∙ sym text;
     }

@@ -1,5 +1,5 @@
 use Rattle.sheet.specs.Parsing.{outcome}
-use Rattle.sheet.proofs.Reading.{read_right, reads_all, bytes-used}
+use Rattle.sheet.proofs.Reading.{read_right, reads_all, bytes_used}
 use Rattle.sheet.proofs.reader.read_field.Goals as goal
 
 pub returns : goal.returns
@@ -13,5 +13,5 @@ returns c =
       rest = rest;
       sound = read_right s c.type_inv.sheet (outcome r) answer;
       complete = reads_all s c.type_inv.sheet (outcome r) answer;
-      used = bytes-used s c.type_inv.sheet r c.read_front.result.1.now answer rest;
+      used = bytes_used s c.type_inv.sheet r c.read_front.result.1.now answer rest;
     }

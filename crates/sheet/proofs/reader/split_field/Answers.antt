@@ -1,8 +1,8 @@
 use Rattle.std.proofs.lemmas.Result.{err_from_is_err_and}
 use Rattle.std.proofs.Common.{Ok, Err, arith, rules}
 use Rattle.sheet.specs.Fields.{value_of}
-use Rattle.sheet.specs.Parsing.{statedLength}
-use Rattle.sheet.proofs.Reading.{field_found, rest-found}
+use Rattle.sheet.specs.Parsing.{stated_length}
+use Rattle.sheet.proofs.Reading.{field_found, rest_found}
 use Rattle.sheet.proofs.reader.split_field.Goals as goal
 
 pub returns-in_err-field : goal.returns-in_err-field
@@ -14,5 +14,5 @@ returns-in_err-field c =
 pub returns : goal.returns
 returns c = record {
   field = field_found c.args.sheet.now (Ok (value_of c.in_ok-field.field)) (search rules) (omega arith) c.in_ok-field.ensures;
-  rest = rest-found c.args.sheet.now (statedLength c.args.sheet.now);
+  rest = rest_found c.args.sheet.now (stated_length c.args.sheet.now);
 }

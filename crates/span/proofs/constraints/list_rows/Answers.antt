@@ -2,9 +2,9 @@ use Rattle.std.proofs.Common.{◌+◌, ◌≤◌, false, [], ◌∷◌, ◌++◌
 use Rattle.sheet.specs.declared.row.Row.TheVariants.{Span}
 use Rattle.engine.specs.declared.noted.Noted.{Noted}
 use Rattle.engine.specs.States.{active}
-use Rattle.span.specs.Constraints.{rowEdges}
+use Rattle.span.specs.Constraints.{row_edges}
 use Rattle.span.specs.Lists.{listed}
-use Rattle.span.proofs.Parts.{listed_more, part-fits, all_listed, rows_more, rows_end}
+use Rattle.span.proofs.Parts.{listed_more, part_fits, all_listed, rows_more, rows_end}
 use Rattle.span.proofs.constraints.list_rows.Goals as goal
 
 abbrev unread : Noted
@@ -14,17 +14,17 @@ pub list_row-requires : goal.list_row-requires
 list_row-requires c =
     let ms = c.args.rows.now in
     let i = c.loop-noted.noted-index in
-    let whole = listed c.args.list.now ++ rowEdges (active ms) in
-    let room : length whole ≤ 128 = omega (arith, c.requires, length-append (listed c.args.list.now) (rowEdges (active ms))) in
-    part-fits (rowEdges (active (get_or ms i unread ∷ []))) (rowEdges (active (drop (i + 1) ms))) (rowEdges (active (drop i ms))) whole (listed c.loop-noted.list) 128 (rows_more unread ms i c.loop-noted-test.true) c.loop-noted.invariant room
+    let whole = listed c.args.list.now ++ row_edges (active ms) in
+    let room : length whole ≤ 128 = omega (arith, c.requires, length-append (listed c.args.list.now) (row_edges (active ms))) in
+    part_fits (row_edges (active (get_or ms i unread ∷ []))) (row_edges (active (drop (i + 1) ms))) (row_edges (active (drop i ms))) whole (listed c.loop-noted.list) 128 (rows_more unread ms i c.loop-noted-test.true) c.loop-noted.invariant room
 
 pub loop-noted-preserved : goal.loop-noted-preserved
 loop-noted-preserved c =
     let ms = c.args.rows.now in
     let i = c.loop-noted.noted-index in
-    listed_more (rowEdges (active (get_or ms i unread ∷ []))) (rowEdges (active (drop (i + 1) ms))) (rowEdges (active (drop i ms))) (listed c.args.list.now ++ rowEdges (active ms)) (listed c.loop-noted.list) (listed c.list_row.new.list) (rows_more unread ms i c.loop-noted-test.true) c.loop-noted.invariant c.list_row.ensures
+    listed_more (row_edges (active (get_or ms i unread ∷ []))) (row_edges (active (drop (i + 1) ms))) (row_edges (active (drop i ms))) (listed c.args.list.now ++ row_edges (active ms)) (listed c.loop-noted.list) (listed c.list_row.new.list) (rows_more unread ms i c.loop-noted-test.true) c.loop-noted.invariant c.list_row.ensures
 
 pub returns : goal.returns
 returns c =
     let ms = c.args.rows.now in
-    all_listed (rowEdges (active (drop c.loop-noted.noted-index ms))) (listed c.args.list.now ++ rowEdges (active ms)) (listed c.loop-noted.list) (rows_end ms c.loop-noted.noted-index c.loop-noted-test.false) c.loop-noted.invariant
+    all_listed (row_edges (active (drop c.loop-noted.noted-index ms))) (listed c.args.list.now ++ row_edges (active ms)) (listed c.loop-noted.list) (rows_end ms c.loop-noted.noted-index c.loop-noted-test.false) c.loop-noted.invariant

@@ -1,7 +1,7 @@
 use Rattle.std.proofs.Common.{◌≡◌, ◌-◌, ◌≤◌, true, length, take, drop, vec_items, vec_len, ap, ◌∙◌, arith}
 use Rattle.std.proofs.lemmas.List.{length-take, take-append-drop}
-use Rattle.engine.specs.Arrangements.{isValid}
-use Rattle.engine.proofs.Ranks.{valid-front}
+use Rattle.engine.specs.Arrangements.{is_valid}
+use Rattle.engine.proofs.Ranks.{valid_front}
 use Rattle.engine.proofs.holdings.Holdings.lift.Goals as goal
 
 pub invariant_of-self-clause-codes_fit : goal.invariant_of-self-clause-codes_fit
@@ -17,4 +17,4 @@ invariant_of-self-clause-codes_valid c =
     let h = c.args.self.now in
     let cs = vec_items h.codes in
     let n = length cs - 1 in
-    ap (isValid 0) c.remove_last.ensures.items ∙ valid-front 0 (take n cs) (drop n cs) (ap (isValid 0) (take-append-drop n cs) ∙ h.codes_valid)
+    ap (is_valid 0) c.remove_last.ensures.items ∙ valid_front 0 (take n cs) (drop n cs) (ap (is_valid 0) (take-append-drop n cs) ∙ h.codes_valid)

@@ -1,6 +1,6 @@
 use Rattle.std.proofs.Common.{◌≡◌, ◌-◌, ◌≤◌, true, length, take, vec_items, vec_len, ap, ◌∙◌, arith}
 use Rattle.std.proofs.lemmas.List.{length-take}
-use Rattle.engine.specs.Fitting.{allRowsFit}
+use Rattle.engine.specs.Fitting.{all_rows_fit}
 use Rattle.engine.proofs.Fitting.{rows_take}
 use Rattle.engine.proofs.holdings.Holdings.strike.Goals as goal
 
@@ -15,4 +15,4 @@ pub invariant_of-self-clause-rows_fit : goal.invariant_of-self-clause-rows_fit
 invariant_of-self-clause-rows_fit c =
     let h = c.args.self.now in
     let ms = vec_items h.rows in
-    ap (allRowsFit (vec_items h.terms)) c.remove_last.ensures.items ∙ rows_take (vec_items h.terms) (length ms - 1) ms h.rows_fit
+    ap (all_rows_fit (vec_items h.terms)) c.remove_last.ensures.items ∙ rows_take (vec_items h.terms) (length ms - 1) ms h.rows_fit

@@ -3,7 +3,7 @@ use Rattle.engine.specs.Holding.{held}
 use Rattle.engine.specs.States.{active}
 use Rattle.engine.proofs.Bounds.{bounds}
 use Rattle.span.specs.Decisions.{Decision}
-use Rattle.span.proofs.Opening.{begun, decided, opened, solved-complete}
+use Rattle.span.proofs.Opening.{begun, decided, opened, solved_complete}
 use Rattle.span.proofs.span.Span.is_consistent.Goals as goal
 
 pub returns : goal.returns
@@ -16,5 +16,5 @@ returns c =
     record {
       decision = d;
       sound = λ e. opened s (bounds h).placed h.codes_valid (d.solved e);
-      complete = λ k. solved-complete s.terms (active s.rows) s.codes r d (begun s k);
+      complete = λ k. solved_complete s.terms (active s.rows) s.codes r d (begun s k);
     }

@@ -3,12 +3,12 @@ use Rattle.std.proofs.lemmas.List.{take_all, take_at}
 use Rattle.engine.specs.Arrangements.{ranks}
 use Rattle.engine.specs.Holding.{held}
 use Rattle.engine.specs.States.{active}
-use Rattle.engine.specs.Terms.{seatsOf}
+use Rattle.engine.specs.Terms.{seats_of}
 use Rattle.engine.proofs.Bounds.{bounds}
-use Rattle.engine.proofs.Ranks.{length-ranks}
-use Rattle.span.specs.Constraints.{orderEdges, rowEdges}
+use Rattle.engine.proofs.Ranks.{length_ranks}
+use Rattle.span.specs.Constraints.{order_edges, row_edges}
 use Rattle.span.specs.Lists.{listed}
-use Rattle.span.proofs.Parts.{few-pairs, few-rows}
+use Rattle.span.proofs.Parts.{few_pairs, few_rows}
 use Rattle.span.proofs.span.Span.list_constraints.Goals as goal
 
 -- the array of ranks, cut to the seats that are placed
@@ -16,14 +16,14 @@ placed-ranks : (codes read array : List ℕ) → length codes ≤ 8 → read ≡
 placed-ranks codes read array few same is =
     let n : length read - 0 ≡ length codes = omega (arith, ap length same) in
     let whole : ranks (take 8 read) ≡ ranks codes = ap ranks (ap (take 8) same ∙ take_all 8 codes few) in
-    (λ i. take (n i) (is i)) ∙ ap (λ rs. take (length codes) (rs ++ replicate (8 - length read) 0)) whole ∙ take_at (ranks codes) (replicate (8 - length read) 0) (length codes) (length-ranks codes)
+    (λ i. take (n i) (is i)) ∙ ap (λ rs. take (length codes) (rs ++ replicate (8 - length read) 0)) whole ∙ take_at (ranks codes) (replicate (8 - length read) 0) (length codes) (length_ranks codes)
 
 pub list_rows-requires : goal.list_rows-requires
 list_rows-requires c =
     let h = c.args.self.now.held in
     let none : length (listed c.new-list.result) ≡ 0 = ap length c.new-list.ensures in
-    let same : length (rowEdges (active c.rows.result.now)) ≡ length (rowEdges (active (held h).rows)) = ap (λ ms. length (rowEdges (active ms))) c.rows.ensures in
-    omega (arith, few-rows (held h).rows, (bounds h).rows)
+    let same : length (row_edges (active c.rows.result.now)) ≡ length (row_edges (active (held h).rows)) = ap (λ ms. length (row_edges (active ms))) c.rows.ensures in
+    omega (arith, few_rows (held h).rows, (bounds h).rows)
 
 pub list_order-requires : goal.list_order-requires
 list_order-requires c =
@@ -31,14 +31,14 @@ list_order-requires c =
     let b = bounds h in
     let few : length (held h).codes ≤ 8 = omega (arith, b.placed, b.seats) in
     let cut = placed-ranks (held h).codes c.codes-codes.result.now c.rank_seats-ranks.result few c.codes-codes.ensures c.rank_seats-ranks.ensures in
-    let long = ap length cut ∙ length-ranks (held h).codes in
-    let rows : length (listed c.list_rows.new.list) ≡ length (listed c.new-list.result) + length (rowEdges (active c.rows.result.now)) = ap length c.list_rows.ensures ∙ length-append (listed c.new-list.result) (rowEdges (active c.rows.result.now)) in
+    let long = ap length cut ∙ length_ranks (held h).codes in
+    let rows : length (listed c.list_rows.new.list) ≡ length (listed c.new-list.result) + length (row_edges (active c.rows.result.now)) = ap length c.list_rows.ensures ∙ length-append (listed c.new-list.result) (row_edges (active c.rows.result.now)) in
     let none : length (listed c.new-list.result) ≡ 0 = ap length c.new-list.ensures in
-    let same : length (rowEdges (active c.rows.result.now)) ≡ length (rowEdges (active (held h).rows)) = ap (λ ms. length (rowEdges (active ms))) c.rows.ensures in
-    let seats : length c.seats.result.now ≡ length (seatsOf (held h).terms) = ap length c.seats.ensures in
+    let same : length (row_edges (active c.rows.result.now)) ≡ length (row_edges (active (held h).rows)) = ap (λ ms. length (row_edges (active ms))) c.rows.ensures in
+    let seats : length c.seats.result.now ≡ length (seats_of (held h).terms) = ap length c.seats.ensures in
     record {
       ranked = omega (arith, b.placed);
-      room = omega (arith, few-rows (held h).rows, b.rows, few-pairs c.seats.result.now (take (length c.codes-codes.result.now - 0) c.rank_seats-ranks.result) (omega arith));
+      room = omega (arith, few_rows (held h).rows, b.rows, few_pairs c.seats.result.now (take (length c.codes-codes.result.now - 0) c.rank_seats-ranks.result) (omega arith));
     }
 
 pub returns : goal.returns
@@ -47,5 +47,5 @@ returns c =
     let b = bounds h in
     let few : length (held h).codes ≤ 8 = omega (arith, b.placed, b.seats) in
     let cut = placed-ranks (held h).codes c.codes-codes.result.now c.rank_seats-ranks.result few c.codes-codes.ensures c.rank_seats-ranks.ensures in
-    let rows : listed c.list_rows.new.list ≡ rowEdges (active (held h).rows) = c.list_rows.ensures ∙ (λ i. c.new-list.ensures i ++ rowEdges (active (c.rows.ensures i))) in
-    c.list_order.ensures ∙ (λ i. rows i ++ orderEdges (c.seats.ensures i) (cut i))
+    let rows : listed c.list_rows.new.list ≡ row_edges (active (held h).rows) = c.list_rows.ensures ∙ (λ i. c.new-list.ensures i ++ row_edges (active (c.rows.ensures i))) in
+    c.list_order.ensures ∙ (λ i. rows i ++ order_edges (c.seats.ensures i) (cut i))

@@ -1,15 +1,15 @@
 use Rattle.std.proofs.Common.{◌≡◌, length, sym, refl, ap, ◌∙◌, subst, arith, length-append}
 use Rattle.graph.specs.Claims.{after}
-use Rattle.graph.specs.Graph.{Within, isStable}
+use Rattle.graph.specs.Graph.{Within, is_stable}
 use Rattle.engine.specs.Arrangements.{ranks}
 use Rattle.engine.specs.Holding.{held}
 use Rattle.engine.specs.States.{active}
-use Rattle.engine.specs.Terms.{seatsOf}
+use Rattle.engine.specs.Terms.{seats_of}
 use Rattle.engine.proofs.Bounds.{bounds}
-use Rattle.engine.proofs.Ranks.{length-ranks}
-use Rattle.span.specs.Constraints.{constraints, orderEdges, rowEdges}
-use Rattle.span.proofs.Limits.{constraints-fit, edges-within}
-use Rattle.span.proofs.Parts.{few-pairs, few-rows}
+use Rattle.engine.proofs.Ranks.{length_ranks}
+use Rattle.span.specs.Constraints.{constraints, order_edges, row_edges}
+use Rattle.span.proofs.Limits.{constraints_fit, edges_within}
+use Rattle.span.proofs.Parts.{few_pairs, few_rows}
 use Rattle.span.proofs.span.Span.settle_terms.Goals as goal
 
 pub settle-settled-requires : goal.settle-settled-requires
@@ -19,11 +19,11 @@ settle-settled-requires c =
     let b = bounds h in
     let es = constraints s.terms (active s.rows) s.codes in
     let is : c.as_slice.result.now ≡ es = c.as_slice.ensures ∙ c.list_constraints-list.ensures in
-    let long = ap length is ∙ length-append (rowEdges (active s.rows)) (orderEdges (seatsOf s.terms) (ranks s.codes)) in
-    let pairs = few-pairs (seatsOf s.terms) (ranks s.codes) (omega (arith, length-ranks s.codes, b.placed, b.seats)) in
+    let long = ap length is ∙ length-append (row_edges (active s.rows)) (order_edges (seats_of s.terms) (ranks s.codes)) in
+    let pairs = few_pairs (seats_of s.terms) (ranks s.codes) (omega (arith, length_ranks s.codes, b.placed, b.seats)) in
     record {
-      within = subst (Within 32) (sym is) (edges-within s.terms es b.terms (constraints-fit s.terms s.rows s.codes h.rows_fit));
-      few = omega (arith, few-rows s.rows, b.rows);
+      within = subst (Within 32) (sym is) (edges_within s.terms es b.terms (constraints_fit s.terms s.rows s.codes h.rows_fit));
+      few = omega (arith, few_rows s.rows, b.rows);
       short = omega (arith, c.count_rounds.ensures, b.seats);
       start = refl;
     }
@@ -34,8 +34,8 @@ returns c =
     let s = held h in
     let es = constraints s.terms (active s.rows) s.codes in
     let is : c.as_slice.result.now ≡ es = c.as_slice.ensures ∙ c.list_constraints-list.ensures in
-    let n : c.count_rounds.result ≡ length (seatsOf s.terms) = c.count_rounds.ensures in
+    let n : c.count_rounds.result ≡ length (seats_of s.terms) = c.count_rounds.ensures in
     record {
-      settled = c.settle-settled.ensures.told ∙ (λ i. isStable (is i) (after 32 (n i) (is i)));
+      settled = c.settle-settled.ensures.told ∙ (λ i. is_stable (is i) (after 32 (n i) (is i)));
       distances = c.settle-settled.ensures.made ∙ (λ i. after 32 (n i) (is i));
     }

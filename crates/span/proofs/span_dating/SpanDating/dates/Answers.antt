@@ -2,14 +2,14 @@ use Rattle.std.proofs.Common.{◌≡◌, ◌-◌, ◌++◌, length, replicate, p
 use Rattle.std.specs.List.{AllByRecursion as All}
 use Rattle.graph.specs.Claims.{after}
 use Rattle.graph.specs.Graph.{at, zeros}
-use Rattle.graph.proofs.Relaxing.{rounds-length}
+use Rattle.graph.proofs.Relaxing.{rounds_length}
 use Rattle.engine.specs.Holding.{held}
 use Rattle.engine.specs.States.{active}
-use Rattle.engine.specs.Terms.{seatsOf}
+use Rattle.engine.specs.Terms.{seats_of}
 use Rattle.engine.proofs.Bounds.{bounds}
 use Rattle.span.specs.Constraints.{constraints}
-use Rattle.span.specs.Dating.{InLimits, fromZero}
-use Rattle.span.proofs.Dates.{all-in-limits, fitting, picked, right, zero-in-limits}
+use Rattle.span.specs.Dating.{InLimits, from_zero}
+use Rattle.span.proofs.Dates.{all_in_limits, fitting, picked, right, zero_in_limits}
 use Rattle.span.proofs.Opening.{begun, decided, opened}
 use Rattle.span.proofs.span_dating.SpanDating.dates.Goals as goal
 
@@ -18,7 +18,7 @@ returns-then-codes-seats c =
     let h = c.args.self.now.held in
     let s = held h in
     let codes : length c.codes.result.now ≡ length s.codes = ap length c.codes.ensures in
-    let seats : length c.seats.result.now ≡ length (seatsOf s.terms) = ap length c.seats.ensures in
+    let seats : length c.seats.result.now ≡ length (seats_of s.terms) = ap length c.seats.ensures in
     record {
       ground = λ full k.
           elim c.then-codes-seats.either [
@@ -39,13 +39,13 @@ count_from_zero-requires c =
     let d = c.settle_terms-settled.result.1 in
     let is = c.settle_terms-settled.ensures.distances in
     let stable = sym c.settle_terms-settled.ensures.settled ∙ c.if-not-settled.false in
-    let each = all-in-limits s.terms s.rows s.codes h.terms_fit h.rows_fit b.terms b.seats b.placed stable in
-    let zero = zero-in-limits s.terms s.rows s.codes h.terms_fit h.rows_fit b.terms b.seats b.placed stable in
+    let each = all_in_limits s.terms s.rows s.codes h.terms_fit h.rows_fit b.terms b.seats b.placed stable in
+    let zero = zero_in_limits s.terms s.rows s.codes h.terms_fit h.rows_fit b.terms b.seats b.placed stable in
     record {
       few = omega (arith, ap length c.seats-2.ensures, b.seats);
-      long = ap length is ∙ rounds-length (length (seatsOf s.terms)) (constraints s.terms (active s.rows) s.codes) (zeros 32);
+      long = ap length is ∙ rounds_length (length (seats_of s.terms)) (constraints s.terms (active s.rows) s.codes) (zeros 32);
       zero = subst (λ x. InLimits x 0) (sym is) zero;
-      each = subst (All (InLimits d)) (sym c.seats-2.ensures) (subst (λ x. All (InLimits x) (seatsOf s.terms)) (sym is) each);
+      each = subst (All (InLimits d)) (sym c.seats-2.ensures) (subst (λ x. All (InLimits x) (seats_of s.terms)) (sym is) each);
     }
 
 pub returns : goal.returns
@@ -53,19 +53,19 @@ returns c =
     let h = c.args.self.now.held in
     let s = held h in
     let b = bounds h in
-    let ss = seatsOf s.terms in
+    let ss = seats_of s.terms in
     let es = constraints s.terms (active s.rows) s.codes in
     let is = c.settle_terms-settled.ensures.distances in
     let stable = sym c.settle_terms-settled.ensures.settled ∙ c.if-not-settled.false in
     let codes : length c.codes.result.now ≡ length s.codes = ap length c.codes.ensures in
     let seats : length c.seats.result.now ≡ length ss = ap length c.seats.ensures in
-    let dates = fromZero (after 32 (length ss) es) ss in
+    let dates = from_zero (after 32 (length ss) es) ss in
     let each : length dates ≡ length ss = (right s.terms s.rows s.codes h.terms_fit h.rows_fit b.terms b.seats b.placed stable).each in
     record {
       placed = omega (arith, b.placed);
       allowed = opened s b.placed h.codes_valid (at (after 32 (length ss) es), fitting s.terms s.rows s.codes h.terms_fit h.rows_fit b.terms b.seats b.placed stable);
       dates = dates;
-      answered = c.count_from_zero.ensures ∙ (λ i. fromZero (is i) (c.seats-2.ensures i) ++ replicate (8 - length (c.seats-2.ensures i)) (pos 0)) ∙ ap (λ n. dates ++ replicate (8 - n) (pos 0)) (sym each);
+      answered = c.count_from_zero.ensures ∙ (λ i. from_zero (is i) (c.seats-2.ensures i) ++ replicate (8 - length (c.seats-2.ensures i)) (pos 0)) ∙ ap (λ n. dates ++ replicate (8 - n) (pos 0)) (sym each);
       right = right s.terms s.rows s.codes h.terms_fit h.rows_fit b.terms b.seats b.placed stable;
       picked = picked s.terms s.rows s.codes h.terms_fit h.rows_fit b.terms b.seats b.placed stable;
     }
