@@ -1,7 +1,7 @@
 -- Arrangements: the seats in blocks, and the blocks in a line. Seats of one block have equal numbers, and an earlier
 -- block has the smaller number. An arrangement is written as one code a seat: with b blocks standing, counted
 -- from 0, code 2k opens a block before block k (after all of them where k is b), and code 2k + 1 joins block k.
-use Rattle.std.specs.Prelude.{◌≡◌, ℕ, ◌+◌, ◌*◌, ◌/◌, ◌%◌, ◌<◌, ◌≤◌, Bool, true, cond, ◌&&◌, ◌⊎◌, List, [], ◌∷◌, ◌++◌, map, length, ℤ, ◌<ℤ◌, ◌==◌, nat_le, slice_index}
+use Rattle.std.specs.Prelude.{◌≡◌, ℕ, ◌+◌, ◌*◌, ◌/◌, ◌%◌, ◌<◌, ◌≤◌, Bool, true, if◌then◌else◌, ◌&&◌, ◌⊎◌, List, [], ◌∷◌, ◌++◌, map, length, ℤ, ◌<ℤ◌, ◌==◌, nat_le, slice_index}
 
 abbrev pub opens_block : ℕ → Bool
 opens_block c = c % 2 == 0
@@ -9,12 +9,12 @@ opens_block c = c % 2 == 0
 -- how many blocks the codes open
 abbrev pub blocks : List ℕ → ℕ
 blocks [] = 0
-blocks (c ∷ cs) = cond (opens_block c) 1 0 + blocks cs
+blocks (c ∷ cs) = (if opens_block c then 1 else 0) + blocks cs
 
 -- with b blocks standing, each code is at most twice the blocks that stand when it comes
 abbrev pub is_valid : ℕ → List ℕ → Bool
 is_valid b [] = true
-is_valid b (c ∷ cs) = nat_le c (2 * b) && is_valid (b + cond (opens_block c) 1 0) cs
+is_valid b (c ∷ cs) = nat_le c (2 * b) && is_valid (b + (if opens_block c then 1 else 0)) cs
 
 -- an arrangement of n seats
 pub record Arrangement (n : ℕ) (codes : List ℕ) : Type 0 where
@@ -23,11 +23,11 @@ pub record Arrangement (n : ℕ) (codes : List ℕ) : Type 0 where
 
 -- the rank of a seat is its block, counted from 0: a block that is opened at k moves those from k on
 abbrev pub moved : ℕ → ℕ → ℕ
-moved k r = cond (nat_le k r) (r + 1) r
+moved k r = if nat_le k r then r + 1 else r
 
 -- the ranks once a seat more is placed by the code c
 abbrev pub ranks_with : List ℕ → ℕ → List ℕ
-ranks_with rs c = cond (opens_block c) (map (moved (c / 2)) rs) rs ++ (c / 2) ∷ []
+ranks_with rs c = (if opens_block c then map (moved (c / 2)) rs else rs) ++ (c / 2) ∷ []
 
 abbrev pub ranks_from : List ℕ → List ℕ → List ℕ
 ranks_from rs [] = rs

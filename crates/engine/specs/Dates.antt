@@ -1,11 +1,12 @@
 -- Dates: a number for each seat, from an engine that gives them.
-use Rattle.std.specs.Prelude.{◌≡◌, ℕ, ◌-◌, ◌<◌, Bool, true, cond, ◌&&◌, List, [], ◌∷◌, ◌++◌, length, get_or, replicate, ℤ, pos, negsuc, ◌-ℤ◌, ◌≤ℤ◌, ◌==◌, slice_index_or}
+use Rattle.std.specs.Prelude.{◌≡◌, ℕ, ◌-◌, ◌<◌, Bool, true, if◌then◌else◌, ◌&&◌, List, [], ◌∷◌, ◌++◌, length, replicate, ℤ, pos, neg_ℤ, ◌-ℤ◌, ◌≤ℤ◌, ◌==◌, slice_index_or}
 use Rattle.std.specs.List.{AllByRecursion as All}
 use Rattle.sheet.specs.declared.fault.Cause.TheVariants.{NoDates}
 use Rattle.sheet.specs.declared.fault.Fault.{Fault}
 use Rattle.sheet.specs.declared.row.Row.{Row}
 use Rattle.sheet.specs.declared.term.Term.{Term}
 use Rattle.sheet.specs.Causes.{fault_in}
+use Rattle.engine.specs.Limits.{date_limit}
 use Rattle.engine.specs.Terms.{seats_of}
 use Rattle.engine.specs.Rows.{RowKind, kind_of, on_dated}
 use Rattle.engine.specs.Meaning.{Numbers, Holds}
@@ -17,7 +18,7 @@ use Rattle.engine.specs.States.{State, active, Completion}
 abbrev pub date_at : List ℕ → List ℤ → Numbers
 date_at [] dates i = pos 0
 date_at (s ∷ ss) [] i = pos 0
-date_at (s ∷ ss) (d ∷ dates) i = cond (s == i) d (date_at ss dates i)
+date_at (s ∷ ss) (d ∷ dates) i = if s == i then d else date_at ss dates i
 
 -- the row holds of the dates, if it is of a kind that counts and stands on dated terms alone
 abbrev pub CountedHolds : (RowKind → Bool) → List Term → List ℤ → Row → Type 0
@@ -26,9 +27,9 @@ CountedHolds counts ts dates r = (counts (kind_of r) && on_dated ts r) ≡ true 
 -- dates from −7,000,000 to 7,000,000, one a seat, in the order of the arrangement, zero's being 0, that make the counted rows true
 pub record RightDates (counts : RowKind → Bool) (s : State) (dates : List ℤ) : Type 0 where
   pub each : length dates ≡ length (seats_of s.terms)
-  pub within : (p : ℕ) → p < length dates → (negsuc 6999999 ≤ℤ slice_index_or dates p (pos 0)) × (slice_index_or dates p (pos 0) ≤ℤ pos 7000000)
-  pub zero_first : get_or dates 0 (pos 0) ≡ pos 0
-  pub ordered : InOrder (ranks s.codes) (λ p. get_or dates p (pos 0))
+  pub within : (p : ℕ) → p < length dates → (neg_ℤ date_limit ≤ℤ slice_index_or dates p (pos 0)) × (slice_index_or dates p (pos 0) ≤ℤ date_limit)
+  pub zero_first : slice_index_or dates 0 (pos 0) ≡ pos 0
+  pub ordered : InOrder (ranks s.codes) (λ p. slice_index_or dates p (pos 0))
   pub hold : All (CountedHolds counts s.terms dates) (active s.rows)
 
 module _ (rule : List Term → List Row → List ℕ → Type 0) (s : State) where

@@ -1,3 +1,4 @@
+pub mod Limits
 pub mod Terms
 pub mod Rows
 pub mod Refusals

@@ -1,6 +1,6 @@
 -- Why a term or a row is refused, or a strike. The grounds are tried from the top down, and there is no other.
 -- A draft, a bench and an engine have these in common; each refuses with the letter of its own layer.
-use Rattle.std.specs.Prelude.{ℕ, Bool, cond, not, ◌&&◌, List, [], ◌∷◌, length, Some, None, Ok, Err, Option, Result, ◌==◌, nat_le}
+use Rattle.std.specs.Prelude.{ℕ, Bool, if◌then◌else◌, not, ◌&&◌, List, [], ◌∷◌, length, Some, None, Ok, Err, Option, Result, ◌==◌, nat_le}
 use Rattle.sheet.specs.declared.fault.Cause.{Cause}
 use Rattle.sheet.specs.declared.fault.Cause.TheVariants.{MalformedTerm, TermsFull, DatedTermsFull, ArgumentNotEarlier, OtherArgumentCount, RowsFull, NoSuchTerm, SpanOnLevel, BoundPastLimit, NoRowToStrike}
 use Rattle.sheet.specs.declared.fault.Fault.{Fault}
@@ -14,7 +14,7 @@ use Rattle.engine.specs.Rows.{terms_below, spans_level, bound_past_limit}
 -- the cause of the first test that holds
 abbrev pub first_ground : List (Bool × Cause) → Option Cause
 first_ground [] = None
-first_ground (g ∷ gs) = cond g.0 (Some g.1) (first_ground gs)
+first_ground (g ∷ gs) = if g.0 then Some g.1 else first_ground gs
 
 -- why the terms ts cannot take the term t: for declaring a term, and for noting one
 abbrev pub term_refusal : List Term → Term → Option Cause

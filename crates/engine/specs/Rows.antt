@@ -1,8 +1,9 @@
 -- Rows: their kinds, the terms that they name, and the limits of a bound.
-use Rattle.std.specs.Prelude.{ℕ, Bool, false, not, ◌&&◌, ◌||◌, List, pos, negsuc, int_lt, nat_lt}
+use Rattle.std.specs.Prelude.{ℕ, Bool, false, not, ◌&&◌, ◌||◌, List, neg_ℤ, int_lt, nat_lt}
 use Rattle.sheet.specs.declared.row.Row.{Row}
 use Rattle.sheet.specs.declared.row.Row.TheVariants.{Span, Same, Unlike}
 use Rattle.sheet.specs.declared.term.Term.{Term}
+use Rattle.engine.specs.Limits.{bound_limit}
 use Rattle.engine.specs.Terms.{is_dated_at}
 
 pub data RowKind : Type 0 where
@@ -39,8 +40,8 @@ spans_level ts (Span i j c) = not (on_dated ts (Span i j c))
 spans_level ts (Same i j) = false
 spans_level ts (Unlike i j) = false
 
--- a bound lies between −1,000,000 and 1,000,000: a span has another
+-- a span whose bound does not lie between −1,000,000 and 1,000,000
 abbrev pub bound_past_limit : Row → Bool
-bound_past_limit (Span i j c) = int_lt c (negsuc 999999) || int_lt (pos 1000000) c
+bound_past_limit (Span i j c) = int_lt c (neg_ℤ bound_limit) || int_lt bound_limit c
 bound_past_limit (Same i j) = false
 bound_past_limit (Unlike i j) = false

@@ -1,5 +1,5 @@
 -- What an engine holds, and when it is open.
-use Rattle.std.specs.Prelude.{ℕ, cond, List, [], ◌∷◌, ◌++◌, length}
+use Rattle.std.specs.Prelude.{ℕ, if◌then◌else◌, List, [], ◌∷◌, ◌++◌, length}
 use Rattle.sheet.specs.declared.row.Row.{Row}
 use Rattle.sheet.specs.declared.term.Term.{Term}
 use Rattle.engine.specs.declared.noted.Noted.{Noted}
@@ -32,7 +32,7 @@ with_code s c = with_codes s (s.codes ++ c ∷ [])
 -- the rows that are not muted, in order
 abbrev pub active : List Noted → List Row
 active [] = []
-active (m ∷ ms) = cond m.active (m.row ∷ active ms) (active ms)
+active (m ∷ ms) = if m.active then m.row ∷ active ms else active ms
 
 -- an arrangement that begins with the codes placed, and that the rule allows for the active rows
 pub record Completion (rule : List Term → List Row → List ℕ → Type 0) (s : State) : Type 0 where

@@ -1,5 +1,5 @@
 -- Terms: which are dated, and what an application asks of the terms before it.
-use Rattle.std.specs.Prelude.{ℕ, suc, Bool, true, false, cond, ◌&&◌, ◌||◌, List, [], ◌∷◌, ◌==◌, nat_lt, slice_index_or}
+use Rattle.std.specs.Prelude.{ℕ, suc, Bool, true, false, if◌then◌else◌, ◌&&◌, ◌||◌, List, [], ◌∷◌, ◌==◌, nat_lt, slice_index_or}
 use Rattle.sheet.specs.declared.term.Kind.{Kind}
 use Rattle.sheet.specs.declared.term.Kind.TheVariants.{Dated, Level}
 use Rattle.sheet.specs.declared.term.Form.{Form}
@@ -21,7 +21,7 @@ is_dated_at ts i = is_dated (slice_index_or ts i zero_term).kind
 -- the indices of the dated terms, where the first term has the index k
 abbrev pub dated_from : ℕ → List Term → List ℕ
 dated_from k [] = []
-dated_from k (t ∷ ts) = cond (is_dated t.kind) (k ∷ dated_from (suc k) ts) (dated_from (suc k) ts)
+dated_from k (t ∷ ts) = if is_dated t.kind then k ∷ dated_from (suc k) ts else dated_from (suc k) ts
 
 -- the seats: a seat is a dated term, which has a place in an arrangement. They stand in the order of the terms, zero first
 abbrev pub seats_of : List Term → List ℕ

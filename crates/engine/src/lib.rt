@@ -3,7 +3,6 @@
 pub mod arrangement;
 pub mod dating;
 pub mod engine;
-pub mod holding;
 pub mod holdings;
 pub mod limits;
 pub mod noted;

@@ -1,5 +1,5 @@
 -- Difference constraints as a graph: solutions, walks, and the distances that relaxing the edges makes.
-use Rattle.std.specs.Prelude.{◌≡◌, ℕ, zero, suc, ◌<◌, Bool, true, cond, not, ◌&&◌, List, [], ◌∷◌, ℤ, pos, ◌+ℤ◌, ◌≤ℤ◌, ◌<ℤ◌, int_lt, slice_index_or, slice_set}
+use Rattle.std.specs.Prelude.{◌≡◌, ℕ, zero, suc, ◌<◌, Bool, true, if◌then◌else◌, not, ◌&&◌, List, [], ◌∷◌, ℤ, pos, ◌+ℤ◌, ◌≤ℤ◌, ◌<ℤ◌, int_lt, slice_index_or, slice_set}
 use Rattle.std.specs.List.{ContainsAt as Has, AllByRecursion as All}
 use Rattle.graph.specs.declared.Edge.{Edge}
 
@@ -45,7 +45,7 @@ lowers e d = int_lt (through e d) (at d e.to)
 
 -- one edge relaxed: its end is lowered to what the edge allows
 abbrev pub relaxed : Edge → List ℤ → List ℤ
-relaxed e d = cond (lowers e d) (slice_set d e.to (through e d)) d
+relaxed e d = if lowers e d then slice_set d e.to (through e d) else d
 
 -- one round: every edge relaxed, in the order of the list
 abbrev pub round : List Edge → List ℤ → List ℤ

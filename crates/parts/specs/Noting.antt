@@ -1,5 +1,5 @@
 -- The fields of a sheet, noted one after another in a new engine.
-use Rattle.std.specs.Prelude.{◌≡◌, ℕ, ◌<◌, Bool, true, false, cond, List, [], ◌∷◌, length, drop, Ok, Err, Result, nat_lt}
+use Rattle.std.specs.Prelude.{◌≡◌, ℕ, ◌<◌, Bool, true, false, if◌then◌else◌, List, [], ◌∷◌, length, drop, Ok, Err, Result, nat_lt}
 use Rattle.sheet.specs.declared.fault.Cause.TheVariants.{TermAfterRow}
 use Rattle.sheet.specs.declared.fault.Fault.{Fault}
 use Rattle.sheet.specs.Causes.{fault_in}
@@ -25,12 +25,12 @@ row_stands s = nat_lt 0 (length s.rows)
 
 -- what noting a field answers, in an engine with this letter that holds s. That a term stands after a row is tested before the engine is asked
 abbrev pub field_answer : ℕ → State → FieldValue → Result (Unit {0}) Fault
-field_answer letter s (term_field t l) = cond (row_stands s) (Err (fault_in load_letter TermAfterRow)) (answer_in letter (on_note_term s t).refusal)
+field_answer letter s (term_field t l) = if row_stands s then Err (fault_in load_letter TermAfterRow) else answer_in letter (on_note_term s t).refusal
 field_answer letter s (row_field r) = answer_in letter (on_note_row s r).refusal
 
 -- the state that follows
 abbrev pub after_field : State → FieldValue → State
-after_field s (term_field t l) = cond (row_stands s) s (on_note_term s t).next
+after_field s (term_field t l) = if row_stands s then s else (on_note_term s t).next
 after_field s (row_field r) = (on_note_row s r).next
 
 -- the same for what the reader found: its fault goes before any other
@@ -45,7 +45,7 @@ pub data Walk (letter : ℕ) (sheet : List ℕ) : State → List ℕ → Type 0 
 
 -- the seat that a field adds, as term n
 abbrev pub seat_of : ℕ → FieldValue → List ℕ
-seat_of n (term_field t l) = cond (is_dated t.kind) (n ∷ []) []
+seat_of n (term_field t l) = if is_dated t.kind then n ∷ [] else []
 seat_of n (row_field r) = []
 
 -- every byte belongs to a field that was noted: the engine holds t then, and `seats` lists its dated terms

@@ -1,5 +1,5 @@
 -- The bytes of a well-formed field are read as that field.
-use Rattle.std.proofs.Common.{◌≡◌, ℕ, suc, ◌+◌, ◌-◌, ◌≤◌, true, false, ltb, List, ◌∷◌, ◌++◌, length, get_or, take, drop, Ok, Result, refl, ap, ◌∙◌, arith, length-append, le-ltb}
+use Rattle.std.proofs.Common.{◌≡◌, ℕ, suc, ◌+◌, ◌≤◌, true, false, ltb, List, ◌∷◌, ◌++◌, length, get_or, take, drop, Ok, Result, refl, ap, ◌∙◌, arith, length-append, le-ltb}
 use Rattle.std.proofs.lemmas.List.{take_at, drop_at}
 use Rattle.sheet.specs.declared.fault.Cause.{Cause}
 use Rattle.sheet.specs.declared.row.Row.TheVariants.{Span, Same, Unlike}

@@ -1,5 +1,5 @@
 -- What the writer does with a field and the caller's buffer.
-use Rattle.std.specs.Prelude.{ℕ, cond, List, ◌++◌, length, drop, Ok, Err, Result, nat_lt}
+use Rattle.std.specs.Prelude.{ℕ, if◌then◌else◌, List, ◌++◌, length, drop, Ok, Err, Result, nat_lt}
 use Rattle.sheet.specs.declared.fault.Cause.{Cause}
 use Rattle.sheet.specs.declared.fault.Cause.TheVariants.{MalformedTerm, BadLabel, BufferTooShort}
 use Rattle.sheet.specs.declared.fault.Fault.{Fault}
@@ -21,12 +21,15 @@ refused c out = leaving (Err c) out
 
 -- the bytes at the front of the buffer, and what stood after them as it was
 abbrev pub put : List ℕ → List ℕ → Written Cause
-put bytes out = cond (nat_lt (length out) (length bytes)) (refused BufferTooShort out) (leaving (Ok (length bytes)) (bytes ++ drop (length bytes) out))
+put bytes out =
+    if nat_lt (length out) (length bytes) then refused BufferTooShort out
+    else leaving (Ok (length bytes)) (bytes ++ drop (length bytes) out)
 
 -- the table's letter is tested first, then the label, then the room
 abbrev pub written : FieldValue → List ℕ → Written Cause
 written (term_field t l) out =
-    cond (well_lettered t.form) (cond (is_label l) (put (bytes_of (term_field t l)) out) (refused BadLabel out)) (refused MalformedTerm out)
+    if well_lettered t.form then (if is_label l then put (bytes_of (term_field t l)) out else refused BadLabel out)
+    else refused MalformedTerm out
 written (row_field r) out = put (bytes_of (row_field r)) out
 
 abbrev pub encode : FieldValue → List ℕ → Written Fault

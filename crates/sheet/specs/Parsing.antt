@@ -1,5 +1,5 @@
 -- What the bytes at the front of a sheet say. The tests stand in the order in which they are made.
-use Rattle.std.specs.Prelude.{ℕ, ◌+◌, ◌*◌, cond, List, length, take, drop, ℤ, Ok, Err, Result, ◌==◌, nat_lt, slice_index}
+use Rattle.std.specs.Prelude.{ℕ, ◌+◌, ◌*◌, if◌then◌else◌, List, length, take, drop, ℤ, Ok, Err, Result, ◌==◌, nat_lt, slice_index}
 use Rattle.std.specs.Borrow.{Bor}
 use Rattle.std.proofs.Common.{to_z}
 use Rattle.std.specs.Int.{w32}
@@ -26,22 +26,28 @@ abbrev pub stated_length : List ℕ → ℕ
 stated_length s = slice_index s 1 * 256 + slice_index s 2
 
 abbrev pub kind_of : ℕ → Result Kind Cause
-kind_of b = cond (b == kind_byte Dated) (Ok Dated) (cond (b == kind_byte Level) (Ok Level) (Err MalformedTerm))
+kind_of b =
+    if b == kind_byte Dated then Ok Dated
+    else (if b == kind_byte Level then Ok Level
+    else Err MalformedTerm)
 
 -- the form f, if the content has `size` bytes at least and the third is a table's letter
 abbrev pub applied_at : List ℕ → ℕ → Form → Result Form Cause
-applied_at b size f = cond (nat_lt (length b) size) (Err MalformedTerm) (cond (is_table_letter (slice_index b 2)) (Ok f) (Err MalformedTerm))
+applied_at b size f =
+    if nat_lt (length b) size then Err MalformedTerm
+    else (if is_table_letter (slice_index b 2) then Ok f
+    else Err MalformedTerm)
 
 -- the form, in the second byte of a term's content
 abbrev pub form_at : List ℕ → Result Form Cause
 form_at b =
-    cond (slice_index b 1 == name_byte) (Ok Name)
-    (cond (slice_index b 1 == one_byte) (applied_at b 4 (One (slice_index b 2) (slice_index b 3)))
-    (cond (slice_index b 1 == two_byte) (applied_at b 5 (Two (slice_index b 2) (slice_index b 3) (slice_index b 4)))
-    (Err MalformedTerm)))
+    if slice_index b 1 == name_byte then Ok Name
+    else (if slice_index b 1 == one_byte then applied_at b 4 (One (slice_index b 2) (slice_index b 3))
+    else (if slice_index b 1 == two_byte then applied_at b 5 (Two (slice_index b 2) (slice_index b 3) (slice_index b 4))
+    else Err MalformedTerm))
 
 abbrev pub label_at : List ℕ → Result (List ℕ) Cause
-label_at l = cond (is_label l) (Ok l) (Err BadLabel)
+label_at l = if is_label l then Ok l else Err BadLabel
 
 -- the kind takes one byte, the form the bytes that it is written in, and the label the rest
 abbrev pub term_in : List ℕ → Result FieldValue Cause
@@ -58,17 +64,17 @@ bound_in b = to_z w32 (slice_index b 2 * 16777216 + slice_index b 3 * 65536 + sl
 -- the content b of a field with this tag
 abbrev pub content_in : ℕ → List ℕ → Result FieldValue Cause
 content_in tag b =
-    cond (tag == term_tag) (cond (nat_lt (length b) 2) (Err WrongLength) (term_in b))
-    (cond (tag == span_tag) (cond (length b == 6) (Ok (row_field (Span (slice_index b 0) (slice_index b 1) (bound_in b)))) (Err WrongLength))
-    (cond (tag == same_tag) (cond (length b == 2) (Ok (row_field (Same (slice_index b 0) (slice_index b 1)))) (Err WrongLength))
-    (cond (tag == unlike_tag) (cond (length b == 2) (Ok (row_field (Unlike (slice_index b 0) (slice_index b 1)))) (Err WrongLength))
-    (Err UnknownTag))))
+    if tag == term_tag then (if nat_lt (length b) 2 then Err WrongLength else term_in b)
+    else (if tag == span_tag then (if length b == 6 then Ok (row_field (Span (slice_index b 0) (slice_index b 1) (bound_in b))) else Err WrongLength)
+    else (if tag == same_tag then (if length b == 2 then Ok (row_field (Same (slice_index b 0) (slice_index b 1))) else Err WrongLength)
+    else (if tag == unlike_tag then (if length b == 2 then Ok (row_field (Unlike (slice_index b 0) (slice_index b 1))) else Err WrongLength)
+    else Err UnknownTag)))
 
 abbrev pub field_in : List ℕ → Result FieldValue Cause
 field_in s =
-    cond (nat_lt (length s) 3) (Err CutShort)
-    (cond (nat_lt (length s) (3 + stated_length s)) (Err CutShort)
-    (content_in (slice_index s 0) (take (stated_length s) (drop 3 s))))
+    if nat_lt (length s) 3 then Err CutShort
+    else (if nat_lt (length s) (3 + stated_length s) then Err CutShort
+    else content_in (slice_index s 0) (take (stated_length s) (drop 3 s)))
 
 -- the field at the front of a sheet, or why there is none
 abbrev pub parse : List ℕ → Result FieldValue Fault

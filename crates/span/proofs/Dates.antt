@@ -16,7 +16,7 @@ use Rattle.sheet.specs.declared.row.Row.TheVariants.{Span, Same, Unlike}
 use Rattle.sheet.specs.declared.term.Term.{Term}
 use Rattle.engine.specs.declared.noted.Noted.{Noted}
 use Rattle.engine.specs.Arrangements.{InOrder, ranks}
-use Rattle.engine.specs.Dates.{CountedHolds, Greatest, GreatestDates, RightDates, date_at}
+use Rattle.engine.specs.Dates.{CountedHolds, GreatestDates, RightDates, date_at}
 use Rattle.engine.specs.Fitting.{all_rows_fit, all_terms_fit}
 use Rattle.engine.specs.Meaning.{Numbers}
 use Rattle.engine.specs.Rules.{SpanFits, SpanHolds, seat_numbers}

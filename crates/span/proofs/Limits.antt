@@ -1,5 +1,5 @@
 -- The edges of the constraints join seats, and none weighs less than the least bound.
-use Rattle.std.specs.Prelude.{◌≡◌, ℕ, ◌<◌, ◌≤◌, Bool, true, false, cond, not, ◌&&◌, List, [], ◌∷◌, length, ℤ, pos, negsuc, neg_ℤ, ◌≤ℤ◌, int_lt, nat_lt, slice_index}
+use Rattle.std.specs.Prelude.{◌≡◌, ℕ, ◌<◌, ◌≤◌, Bool, true, false, cond, not, ◌&&◌, List, [], ◌∷◌, length, pos, negsuc, neg_ℤ, ◌≤ℤ◌, int_lt, nat_lt, slice_index}
 use Rattle.std.proofs.Common.{arith}
 use Rattle.std.specs.List.{ContainsAt as Has, AllByRecursion as All}
 use Rattle.std.proofs.ByRecursion.{All-append, all-has, All-weaker, has_get_or}

@@ -1,7 +1,6 @@
 -- The rounds decide whether numbers fit, and so whether an allowed arrangement begins with the codes.
-use Rattle.std.specs.Prelude.{◌≡◌, ℕ, ◌≤◌, Bool, true, List, [], ◌∷◌, ◌++◌, length, refl}
+use Rattle.std.specs.Prelude.{◌≡◌, ℕ, ◌≤◌, Bool, true, List, length, refl}
 use Rattle.std.proofs.Common.{arith, inl, inr}
-use Rattle.std.specs.List.{AllByRecursion as All}
 use Rattle.std.proofs.lemmas.Bool.{cases_Bool}
 use Rattle.graph.specs.Claims.{Decided}
 use Rattle.graph.proofs.Deciding.{exact_among}
@@ -10,7 +9,7 @@ use Rattle.sheet.specs.declared.term.Term.{Term}
 use Rattle.engine.specs.declared.noted.Noted.{Noted}
 use Rattle.engine.specs.Arrangements.{is_valid}
 use Rattle.engine.specs.Fitting.{all_rows_fit}
-use Rattle.engine.specs.Rules.{SpanAllowed, SpanHolds, seat_numbers}
+use Rattle.engine.specs.Rules.{SpanAllowed, seat_numbers}
 use Rattle.engine.specs.States.{Completion, State, active}
 use Rattle.engine.specs.Terms.{seats_of}
 use Rattle.engine.proofs.Following.{front_extended, in_order_front}

@@ -1,6 +1,6 @@
 -- The difference constraints of an engine: those of the active span rows, and those of the order of the placed blocks.
 -- A vertex is a term, by its index. An edge says that the number of `to` is at most that of `from` plus the weight.
-use Rattle.std.specs.Prelude.{ℕ, cond, List, [], ◌∷◌, ◌++◌, ℤ, pos, negsuc, nat_lt}
+use Rattle.std.specs.Prelude.{ℕ, if◌then◌else◌, List, [], ◌∷◌, ◌++◌, ℤ, pos, neg_ℤ, nat_lt}
 use Rattle.graph.specs.declared.Edge.{Edge}
 use Rattle.sheet.specs.declared.row.Row.{Row}
 use Rattle.sheet.specs.declared.row.Row.TheVariants.{Span, Same, Unlike}
@@ -21,9 +21,9 @@ row_edges (Unlike i j ∷ rows) = row_edges rows
 -- the terms s and t have seats with the ranks r and q: the number of the lower rank is smaller by 1 at least, and in one block both are equal
 abbrev pub pair_edges : ℕ → ℕ → ℕ → ℕ → List Edge
 pair_edges s r t q =
-    cond (nat_lt r q) (edge s t (negsuc 0) ∷ [])
-    (cond (nat_lt q r) (edge t s (negsuc 0) ∷ [])
-    (edge s t (pos 0) ∷ edge t s (pos 0) ∷ []))
+    if nat_lt r q then edge s t (neg_ℤ (pos 1)) ∷ []
+    else (if nat_lt q r then edge t s (neg_ℤ (pos 1)) ∷ []
+    else edge s t (pos 0) ∷ edge t s (pos 0) ∷ [])
 
 -- the term s with each of the seats ss
 abbrev pub edges_with : ℕ → ℕ → List ℕ → List ℕ → List Edge

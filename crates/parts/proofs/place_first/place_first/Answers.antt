@@ -6,12 +6,12 @@ use Rattle.parts.proofs.place_first.place_first.Goals as goal
 
 pub returns-then-not-open : goal.returns-then-not-open
 returns-then-not-open g c = record {
-  places = ((λ k. both_ways c.open.result c.if-not-open.true (c.open.ensures.complete k)), refl, refl);
+  places = ((λ k. both_ways c.open.result c.if-not-open.true (c.open.ensures.1 k)), refl, refl);
   keeps = refl;
 }
 
 pub loop-code-init : goal.loop-code-init
-loop-code-init g c = (placing_start g.E.Engine c.args.engine.now (vec_items c.args.codes.now) (c.open.ensures.sound c.if-not-open.false), c.requires.room)
+loop-code-init g c = (placing_start g.E.Engine c.args.engine.now (vec_items c.args.codes.now) (c.open.ensures.0 c.if-not-open.false), c.requires.room)
 
 pub place_least-requires : goal.place_least-requires
 place_least-requires g c =

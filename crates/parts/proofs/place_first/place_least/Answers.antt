@@ -24,7 +24,7 @@ returns-then-open g c =
     let code = c.loop-engine.code in
     let ok : (on_place (f.state x) code).refusal ≡ None = accepted_is f.LETTER (on_place (f.state x) code).refusal tt c.in-Ok.ensures.answers in
     record {
-      places = found f c.args.engine.now x code c.loop-engine.invariant c.place.new.self ok c.place.ensures.leaves c.place.ensures.keeps (c.open.ensures.sound c.if-open.true);
+      places = found f c.args.engine.now x code c.loop-engine.invariant c.place.new.self ok c.place.ensures.leaves c.place.ensures.keeps (c.open.ensures.0 c.if-open.true);
       keeps = c.place.ensures.keeps ∙ c.loop-engine.invariant.kept;
     }
 
@@ -47,4 +47,4 @@ loop-engine-preserved g c =
     let x = c.loop-engine.engine in
     let code = c.loop-engine.code in
     let ok : (on_place (f.state x) code).refusal ≡ None = accepted_is f.LETTER (on_place (f.state x) code).refusal tt c.in-Ok.ensures.answers in
-    next f c.args.engine.now x code c.loop-engine.invariant c.place.new.self ok c.place.ensures.leaves c.place.ensures.keeps c.lift.new.self (λ k. both_ways c.open.result c.if-open.false (c.open.ensures.complete k)) c.lift.ensures.leaves c.lift.ensures.keeps
+    next f c.args.engine.now x code c.loop-engine.invariant c.place.new.self ok c.place.ensures.leaves c.place.ensures.keeps c.lift.new.self (λ k. both_ways c.open.result c.if-open.false (c.open.ensures.1 k)) c.lift.ensures.leaves c.lift.ensures.keeps

@@ -15,6 +15,5 @@ returns c =
     subst (Decision s.terms (active s.rows) s.codes) (sym c.settle_terms-settled.ensures.settled) (decided s.terms s.rows s.codes (bounds h).terms h.rows_fit (bounds h).placed) in
     record {
       decision = d;
-      sound = λ e. opened s (bounds h).placed h.codes_valid (d.solved e);
-      complete = λ k. solved_complete s.terms (active s.rows) s.codes r d (begun s k);
+      exact = (λ e. opened s (bounds h).placed h.codes_valid (d.solved e), λ k. solved_complete s.terms (active s.rows) s.codes r d (begun s k));
     }
