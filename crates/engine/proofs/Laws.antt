@@ -1,7 +1,7 @@
 -- Laws of the rules and of the dates, which engines answer to their interfaces.
-use Rattle.std.specs.Prelude.{◌≡◌, ℕ, suc, ◌<◌, List, [], ◌∷◌, ◌++◌, length, ℤ, pos, ◌-ℤ◌, ◌≤ℤ◌, slice_index_or, refl}
+use Rattle.std.specs.Prelude.{◌≡◌, ℕ, suc, ◌<◌, List, [], ◌∷◌, ◌++◌, length, ℤ, pos, ◌-ℤ◌, ◌≤ℤ◌, slice_index_or, All, refl}
 use Rattle.std.proofs.Common.{sym, ◌∙◌, arith}
-use Rattle.std.specs.List.{AllByRecursion as All}
+use Rattle.std.proofs.lemmas.List.Elements.{All-cons, All-head, All-tail}
 use Rattle.std.proofs.lemmas.Int.{ints}
 use Rattle.sheet.specs.declared.row.Row.{Row}
 use Rattle.sheet.specs.declared.term.Term.{Term}
@@ -10,8 +10,8 @@ use Rattle.engine.specs.Rules.{SpanAllowed, SpanHolds, seat_numbers}
 use Rattle.engine.specs.Terms.{seats_of}
 
 all_without : {X : Type 0} (P : X → Type 0) (front back : List X) (x : X) → All P (front ++ x ∷ back) → All P (front ++ back)
-all_without P [] back x a = a.1
-all_without P (y ∷ front) back x a = (a.0, all_without P front back x a.1)
+all_without P [] back x a = All-tail P x back a
+all_without P (y ∷ front) back x a = All-cons P y (front ++ back) (All-head P y (front ++ x ∷ back) a) (all_without P front back x (All-tail P y (front ++ x ∷ back) a))
 
 -- what is allowed stays allowed when a row is left out
 pub span_rule_without : (ts : List Term) (front back : List Row) (r : Row) (codes : List ℕ) → SpanAllowed ts (front ++ r ∷ back) codes → SpanAllowed ts (front ++ back) codes

@@ -1,9 +1,8 @@
 -- Ranks written into an array: blocks opened in place, and one seat more.
-use Rattle.std.proofs.Common.{◌≡◌, ℕ, zero, suc, ◌+◌, ◌-◌, ◌/◌, ◌%◌, ◌<◌, ◌≤◌, min, cond, leb, List, [], ◌∷◌, ◌++◌, map, length, get_or, take, drop, set, replicate, sym, refl, ap, ◌∙◌, subst, inl, inr, add_assoc, add-one, arith}
+use Rattle.std.proofs.Common.{◌≡◌, ℕ, zero, suc, ◌+◌, ◌-◌, ◌/◌, ◌%◌, ◌<◌, ◌≤◌, min, cond, leb, List, [], ◌∷◌, ◌++◌, map, length, get_or, take, drop, set, replicate, All, sym, refl, ap, ◌∙◌, subst, inl, inr, add_assoc, add-one, arith}
 use native.Mathlib.Nat.{sub-zero}
 use borrow.Rule.Slice.PartMut.{post_of}
-use Rattle.std.specs.List.{AllByRecursion as All}
-use Rattle.std.proofs.ByRecursion.{All-map, All-push, All-weaker}
+use Rattle.std.proofs.lemmas.List.Elements.{All-head, All-tail, All-map, All-push, All-weaker}
 use Rattle.std.proofs.lemmas.List.{append-nil, take_all, take_more, drop_all, take_at, drop_at, length-map, length-append, length-replicate, length-take-le}
 use Rattle.std.proofs.lemmas.Bool.{cases_lt, cond_both}
 use Rattle.engine.specs.Arrangements.{opens_block, moved, ranks_with, ranks}
@@ -36,8 +35,8 @@ Low b rs = All (λ r. r ≤ b) rs
 
 pub low_item : (b : ℕ) (rs : List ℕ) (i : ℕ) → Low b rs → get_or rs i 0 ≤ b
 low_item b [] i h = omega arith
-low_item b (r ∷ rs) zero h = h.0
-low_item b (r ∷ rs) (suc i) h = low_item b rs i h.1
+low_item b (r ∷ rs) zero h = All-head (λ x. x ≤ b) r rs h
+low_item b (r ∷ rs) (suc i) h = low_item b rs i (All-tail (λ x. x ≤ b) r rs h)
 
 low_moved : (b k : ℕ) (rs : List ℕ) → Low b rs → Low (b + 1) (map (moved k) rs)
 low_moved b k rs h =

@@ -1,6 +1,5 @@
 -- The rules of the two engines: which arrangements each allows, by the terms and the active rows alone.
-use Rattle.std.specs.Prelude.{ℕ, List, ℤ, slice_index}
-use Rattle.std.specs.List.{AllByRecursion as All}
+use Rattle.std.specs.Prelude.{ℕ, List, ℤ, slice_index, All}
 use Rattle.sheet.specs.declared.row.Row.{Row}
 use Rattle.sheet.specs.declared.row.Row.TheVariants.{Span, Same, Unlike}
 use Rattle.sheet.specs.declared.term.Term.{Term}

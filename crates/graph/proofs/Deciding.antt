@@ -1,9 +1,8 @@
 -- The claims of specs/Claims.antt: what the distances after some rounds decide.
-use Rattle.std.proofs.Common.{◌≡◌, ℕ, zero, suc, pred, ◌+◌, ◌*◌, ◌<◌, ◌≤◌, Bool, true, false, ◌⊎◌, List, [], ◌∷◌, length, ℤ, pos, ◌+ℤ◌, neg_ℤ, ◌≤ℤ◌, ◌<ℤ◌, sym, refl, ap, ◌∙◌, subst, inl, inr, mul-le-mul_right, arith}
+use Rattle.std.proofs.Common.{◌≡◌, ℕ, zero, suc, pred, ◌+◌, ◌*◌, ◌<◌, ◌≤◌, Bool, true, false, ◌⊎◌, List, [], ◌∷◌, length, ℤ, pos, ◌+ℤ◌, neg_ℤ, ◌≤ℤ◌, ◌<ℤ◌, Contains, sym, refl, ap, ◌∙◌, subst, inl, inr, mul-le-mul_right, arith}
 use lib.Signed.{≤ℤ_refl}
-use Rattle.std.specs.List.{ContainsAt as Has}
 use Rattle.std.proofs.lemmas.Int.{ints}
-use Rattle.std.proofs.ByRecursion.{all-has, all_has_itself}
+use Rattle.std.proofs.lemmas.List.Elements.{All-contains, All-contains_itself}
 use Rattle.graph.specs.declared.Edge.{Edge}
 use Rattle.graph.specs.Graph.{Within, EdgeHolds, Feasible, Walk, total, NegativeCycle, at, through, relaxed, round, rounds, zeros, is_stable}
 use Rattle.graph.specs.Claims.{after, Below, LowSolution, Greatest, Among, ExactAmong, BoundedAmong}
@@ -11,28 +10,28 @@ use Rattle.graph.proofs.Relaxing.{relaxed_at, relaxed_le, relaxed_length, round_
 use Rattle.graph.proofs.Walks.{Simple, simplify, simple_short, cycle_refutes, walk_weight}
 
 module _ (n : ℕ) (es : List Edge) (within : Within n es) where
-  to_in : (e : Edge) → Has es e → e.to < n
-  to_in e h = (all-has (λ e. (e.to < n) × (e.from < n)) es e within h).0
+  to_in : (e : Edge) → Contains es e → e.to < n
+  to_in e h = (All-contains (λ e. (e.to < n) × (e.from < n)) es e within h).0
 
-  from_in : (e : Edge) → Has es e → e.from < n
-  from_in e h = (all-has (λ e. (e.to < n) × (e.from < n)) es e within h).1
+  from_in : (e : Edge) → Contains es e → e.from < n
+  from_in e h = (All-contains (λ e. (e.to < n) × (e.from < n)) es e within h).1
 
   below : (k : ℕ) (x : ℕ → ℤ) → LowSolution n es x → Below n x (at (after n k es))
   below k x s = (rounds_keep (λ d. (length d ≡ n) × Below n x (at d)) es step k (zeros n) (zeros_length n, λ v i. subst (λ (y : ℤ). x v ≤ℤ y) (sym (zeros_at n v)) (s.1 v i))).1
     where
-      step : (e : Edge) → Has es e → (d : List ℤ) → (length d ≡ n) × Below n x (at d) → (length (relaxed e d) ≡ n) × Below n x (at (relaxed e d))
+      step : (e : Edge) → Contains es e → (d : List ℤ) → (length d ≡ n) × Below n x (at d) → (length (relaxed e d) ≡ n) × Below n x (at (relaxed e d))
       step e h d q = (relaxed_length e d ∙ q.0, under)
         where
           under : Below n x (at (relaxed e d))
           under v i = elim (relaxed_at e d v (omega (arith, q.0, to_in e h))) [
-            | inl r ↦ (let a : x v ≡ x e.to = ap x r.0 in let b : x e.to ≤ℤ (x e.from +ℤ e.weight) = all-has (EdgeHolds x) es e s.0 h in let c : x e.from ≤ℤ at d e.from = q.1 e.from (from_in e h) in let g : at (relaxed e d) v ≡ through e d = r.2 in omega (arith, ints))
+            | inl r ↦ (let a : x v ≡ x e.to = ap x r.0 in let b : x e.to ≤ℤ (x e.from +ℤ e.weight) = All-contains (EdgeHolds x) es e s.0 h in let c : x e.from ≤ℤ at d e.from = q.1 e.from (from_in e h) in let g : at (relaxed e d) v ≡ through e d = r.2 in omega (arith, ints))
             | inr r ↦ (let c : x v ≤ℤ at d v = q.1 v i in let g : at (relaxed e d) v ≡ at d v = r.0 in omega (arith, ints))
           ]
 
   never_above : (k : ℕ) (v : ℕ) → at (after n k es) v ≤ℤ pos 0
   never_above k v = (rounds_keep (λ d. (length d ≡ n) × (at d v ≤ℤ pos 0)) es step k (zeros n) (zeros_length n, subst (λ (y : ℤ). y ≤ℤ pos 0) (sym (zeros_at n v)) (≤ℤ_refl (pos 0)))).1
     where
-      step : (e : Edge) → Has es e → (d : List ℤ) → (length d ≡ n) × (at d v ≤ℤ pos 0) → (length (relaxed e d) ≡ n) × (at (relaxed e d) v ≤ℤ pos 0)
+      step : (e : Edge) → Contains es e → (d : List ℤ) → (length d ≡ n) × (at d v ≤ℤ pos 0) → (length (relaxed e d) ≡ n) × (at (relaxed e d) v ≤ℤ pos 0)
       step e h d q = (relaxed_length e d ∙ q.0, (let a : at (relaxed e d) v ≤ℤ at d v = relaxed_le e d v (omega (arith, q.0, to_in e h)) in let b : at d v ≤ℤ pos 0 = q.1 in omega (arith, ints)))
 
   -- each distance is the weight of a walk
@@ -42,7 +41,7 @@ module _ (n : ℕ) (es : List Edge) (within : Within n es) where
   walk_to : (k v : ℕ) → v < n → WalkTo (after n k es) v
   walk_to k = (rounds_keep (λ d. (length d ≡ n) × ((v : ℕ) → v < n → WalkTo d v)) es step k (zeros n) (zeros_length n, λ v h. ([], v, refl, zeros_at n v))).1
     where
-      step : (e : Edge) → Has es e → (d : List ℤ) → (length d ≡ n) × ((v : ℕ) → v < n → WalkTo d v) → (length (relaxed e d) ≡ n) × ((v : ℕ) → v < n → WalkTo (relaxed e d) v)
+      step : (e : Edge) → Contains es e → (d : List ℤ) → (length d ≡ n) × ((v : ℕ) → v < n → WalkTo d v) → (length (relaxed e d) ≡ n) × ((v : ℕ) → v < n → WalkTo (relaxed e d) v)
       step e h d q = (relaxed_length e d ∙ q.0, along)
         where
           along : (v : ℕ) → v < n → WalkTo (relaxed e d) v
@@ -63,7 +62,7 @@ module _ (n : ℕ) (es : List Edge) (within : Within n es) where
       longer : (v : ℕ) (p : List Edge) (u : ℕ) → Walk es v p u → length p ≤ suc k → at (round es d) v ≤ℤ total p
       longer v [] u w l = (let a : at (round es d) v ≤ℤ at d v = round_le n es d v q.0 within in let b : at d v ≤ℤ pos 0 = q.1 v [] u w (omega arith) in omega (arith, ints))
       longer v (e ∷ p) u w l =
-          (let a : at (round es d) e.to ≤ℤ through e d = all-has (λ e. at (round es d) e.to ≤ℤ through e d) es e (round_ends n es d q.0 within) w.0 in
+          (let a : at (round es d) e.to ≤ℤ through e d = All-contains (λ e. at (round es d) e.to ≤ℤ through e d) es e (round_ends n es d q.0 within) w.0 in
           let b : at d e.from ≤ℤ total p = q.1 e.from p u w.2 (omega arith) in
           let c : at (round es d) e.to ≡ at (round es d) v = ap (at (round es d)) w.1 in
           omega (arith, ints))
@@ -82,9 +81,9 @@ module _ (n : ℕ) (es : List Edge) (within : Within n es) where
   module _ (vs : List ℕ) (among : Among vs es) where
     -- an edge that lowers its end after so many rounds closes a negative cycle
     unstable_cycle : (k : ℕ) → length vs ≤ suc k → is_stable es (after n k es) ≡ false → NegativeCycle es
-    unstable_cycle k b h = by_edge (unstable_edge es es (after n k es) (all_has_itself es) h)
+    unstable_cycle k b h = by_edge (unstable_edge es es (after n k es) (All-contains_itself es) h)
       where
-        by_edge : (e : Edge) × Has es e × (through e (after n k es) <ℤ at (after n k es) e.to) → NegativeCycle es
+        by_edge : (e : Edge) × Contains es e × (through e (after n k es) <ℤ at (after n k es) e.to) → NegativeCycle es
         by_edge (e, i, lt) = by_walk (walk_to k e.from (from_in e i))
           where
             by_walk : WalkTo (after n k es) e.from → NegativeCycle es
@@ -93,7 +92,7 @@ module _ (n : ℕ) (es : List Edge) (within : Within n es) where
                 by_simple : NegativeCycle es ⊎ Simple es e.to (e ∷ p) u → NegativeCycle es
                 by_simple (inl c) = c
                 by_simple (inr s) = absurd
-                    (let short : suc (length s.0) ≤ length vs = simple_short vs es among e.to s.0 u (all-has (λ e. Has vs e.to × Has vs e.from) es e among i).0 s.1 s.2 in
+                    (let short : suc (length s.0) ≤ length vs = simple_short vs es among e.to s.0 u (All-contains (λ e. Contains vs e.to × Contains vs e.from) es e among i).0 s.1 s.2 in
                     let a : at (after n k es) e.to ≤ℤ total s.0 = (least k).1 e.to s.0 u s.1 (omega arith) in
                     let c : total s.0 ≤ℤ total (e ∷ p) = s.3 in
                     omega (arith, ints))

@@ -1,12 +1,11 @@
 -- What relaxing an edge, a round and some rounds do to the distances.
-use Rattle.std.proofs.Common.{◌≡◌, ℕ, zero, suc, ◌<◌, Bool, true, false, cond, not, ◌&&◌, ◌≢◌, ◌⊎◌, List, [], ◌∷◌, length, set, ℤ, pos, ◌≤ℤ◌, ◌<ℤ◌, sym, refl, ap, ◌∙◌, subst, inl, inr, arith, length-set, get_or-set_other, get_or-set_same}
+use Rattle.std.proofs.Common.{◌≡◌, ℕ, zero, suc, ◌<◌, Bool, true, false, cond, not, ◌&&◌, ◌≢◌, ◌⊎◌, List, [], ◌∷◌, length, set, ℤ, pos, ◌≤ℤ◌, ◌<ℤ◌, All, Contains, sym, refl, ap, ◌∙◌, subst, inl, inr, arith, length-set, get_or-set_other, get_or-set_same}
 use native.Mathlib.Decide.{ℕ_discrete}
 use lib.Signed.{≤ℤ_refl}
-use Rattle.std.specs.List.{ContainsAt as Has, AllByRecursion as All}
 use Rattle.std.proofs.lemmas.Int.{ints}
-use Rattle.std.proofs.ByRecursion.{all_has_itself, All-weaker}
+use Rattle.std.proofs.lemmas.List.Elements.{All-nil, All-cons, All-head, All-tail, All-weaker, All-contains_itself}
 use Rattle.graph.specs.declared.Edge.{Edge}
-use Rattle.graph.specs.Graph.{Within, Solution, at, through, lowers, relaxed, round, rounds, zeros, is_stable}
+use Rattle.graph.specs.Graph.{Within, EdgeHolds, Solution, at, through, lowers, relaxed, round, rounds, zeros, is_stable}
 use Rattle.graph.specs.Claims.{Early}
 
 -- a write changes one vertex
@@ -54,21 +53,24 @@ rounds_length (suc k) es d = rounds_length k es (round es d) ∙ round_length es
 pub round_le : (n : ℕ) (es : List Edge) (d : List ℤ) (v : ℕ) → length d ≡ n → Within n es → at (round es d) v ≤ℤ at d v
 round_le n [] d v l w = ≤ℤ_refl (at d v)
 round_le n (e ∷ es) d v l w =
-    let a : at (round es (relaxed e d)) v ≤ℤ at (relaxed e d) v = round_le n es (relaxed e d) v (relaxed_length e d ∙ l) w.1 in
-    let b : at (relaxed e d) v ≤ℤ at d v = relaxed_le e d v (omega (arith, l, w.0.0)) in
+    let a : at (round es (relaxed e d)) v ≤ℤ at (relaxed e d) v = round_le n es (relaxed e d) v (relaxed_length e d ∙ l) (All-tail (λ e. (e.to < n) × (e.from < n)) e es w) in
+    let b : at (relaxed e d) v ≤ℤ at d v = relaxed_le e d v (omega (arith, l, (All-head (λ e. (e.to < n) × (e.from < n)) e es w).0)) in
     omega (arith, ints)
 
 -- after a round every edge has been made use of
 pub round_ends : (n : ℕ) (es : List Edge) (d : List ℤ) → length d ≡ n → Within n es → All (λ e. at (round es d) e.to ≤ℤ through e d) es
-round_ends n [] d l w = tt
-round_ends n (e ∷ es) d l w = (first, All-weaker (λ f. at (round es (relaxed e d)) f.to ≤ℤ through f (relaxed e d)) (λ f. at (round es (relaxed e d)) f.to ≤ℤ through f d) weaker es (round_ends n es (relaxed e d) (relaxed_length e d ∙ l) w.1))
+round_ends n [] d l w = All-nil _
+round_ends n (e ∷ es) d l w = All-cons (λ f. at (round es (relaxed e d)) f.to ≤ℤ through f d) e es first (All-weaker (λ f. at (round es (relaxed e d)) f.to ≤ℤ through f (relaxed e d)) (λ f. at (round es (relaxed e d)) f.to ≤ℤ through f d) weaker es (round_ends n es (relaxed e d) (relaxed_length e d ∙ l) rest))
   where
+    rest : Within n es
+    rest = All-tail (λ e. (e.to < n) × (e.from < n)) e es w
+
     inside : e.to < length d
-    inside = omega (arith, l, w.0.0)
+    inside = omega (arith, l, (All-head (λ e. (e.to < n) × (e.from < n)) e es w).0)
 
     first : at (round es (relaxed e d)) e.to ≤ℤ through e d
     first =
-        let a : at (round es (relaxed e d)) e.to ≤ℤ at (relaxed e d) e.to = round_le n es (relaxed e d) e.to (relaxed_length e d ∙ l) w.1 in
+        let a : at (round es (relaxed e d)) e.to ≤ℤ at (relaxed e d) e.to = round_le n es (relaxed e d) e.to (relaxed_length e d ∙ l) rest in
         let b : at (relaxed e d) e.to ≤ℤ through e d = relaxed_end e d inside in
         omega (arith, ints)
 
@@ -78,11 +80,11 @@ round_ends n (e ∷ es) d l w = (first, All-weaker (λ f. at (round es (relaxed 
 -- what every edge keeps, any number of rounds keeps
 round_keeps : (P : List ℤ → Type 0) (es : List Edge) → All (λ e. (d : List ℤ) → P d → P (relaxed e d)) es → (d : List ℤ) → P d → P (round es d)
 round_keeps P [] k d h = h
-round_keeps P (e ∷ es) k d h = round_keeps P es k.1 (relaxed e d) (k.0 d h)
+round_keeps P (e ∷ es) k d h = round_keeps P es (All-tail (λ e. (d : List ℤ) → P d → P (relaxed e d)) e es k) (relaxed e d) (All-head (λ e. (d : List ℤ) → P d → P (relaxed e d)) e es k d h)
 
-pub rounds_keep : (P : List ℤ → Type 0) (es : List Edge) → ((e : Edge) → Has es e → (d : List ℤ) → P d → P (relaxed e d)) → (k : ℕ) (d : List ℤ) → P d → P (rounds k es d)
+pub rounds_keep : (P : List ℤ → Type 0) (es : List Edge) → ((e : Edge) → Contains es e → (d : List ℤ) → P d → P (relaxed e d)) → (k : ℕ) (d : List ℤ) → P d → P (rounds k es d)
 rounds_keep P es f zero d h = h
-rounds_keep P es f (suc k) d h = rounds_keep P es f k (round es d) (round_keeps P es (All-weaker (Has es) (λ e. (d : List ℤ) → P d → P (relaxed e d)) f es (all_has_itself es)) d h)
+rounds_keep P es f (suc k) d h = rounds_keep P es f k (round es d) (round_keeps P es (All-weaker (Contains es) (λ e. (d : List ℤ) → P d → P (relaxed e d)) f es (All-contains_itself es)) d h)
 
 pub zeros_at : (n v : ℕ) → at (zeros n) v ≡ pos 0
 zeros_at zero v = refl
@@ -102,16 +104,16 @@ unstable_part true c h = inl refl
 unstable_part false c h = inr h
 
 pub stable_solution : (es : List Edge) (d : List ℤ) → is_stable es d ≡ true → Solution es (at d)
-stable_solution [] d h = tt
+stable_solution [] d h = All-nil _
 stable_solution (e ∷ es) d h =
     let q : (lowers e d ≡ false) × (is_stable es d ≡ true) = stable_parts (lowers e d) (is_stable es d) h in
     let s : lowers e d ≡ false = q.0 in
-    (grind (arith, ints), stable_solution es d q.1)
+    All-cons (EdgeHolds (at d)) e es (grind (arith, ints)) (stable_solution es d q.1)
 
 -- distances that are not stable have an edge that lowers its end
-pub unstable_edge : (es fs : List Edge) (d : List ℤ) → All (Has es) fs → is_stable fs d ≡ false → (e : Edge) × Has es e × (through e d <ℤ at d e.to)
+pub unstable_edge : (es fs : List Edge) (d : List ℤ) → All (Contains es) fs → is_stable fs d ≡ false → (e : Edge) × Contains es e × (through e d <ℤ at d e.to)
 unstable_edge es [] d a h = absurd (let z : ◌≡◌ {A = ℕ} 0 1 = cc in omega arith)
-unstable_edge es (e ∷ fs) d a h = elim (unstable_part (lowers e d) (is_stable fs d) h) [ inl q ↦ (e, a.0, grind (arith, ints)) | inr q ↦ unstable_edge es fs d a.1 q ]
+unstable_edge es (e ∷ fs) d a h = elim (unstable_part (lowers e d) (is_stable fs d) h) [ inl q ↦ (e, All-head (Contains es) e fs a, grind (arith, ints)) | inr q ↦ unstable_edge es fs d (All-tail (Contains es) e fs a) q ]
 
 stable_round : (es : List Edge) (d : List ℤ) → is_stable es d ≡ true → round es d ≡ d
 stable_round [] d h = refl

@@ -1,10 +1,9 @@
 -- Walks: one that meets no vertex twice is short, and any other is no lighter than such a one, or goes round a negative cycle.
-use Rattle.std.proofs.Common.{◌≡◌, ℕ, suc, ◌*◌, ◌≤◌, ◌≢◌, ◌⊎◌, List, [], ◌∷◌, length, ℤ, pos, ◌+ℤ◌, neg_ℤ, ◌≤ℤ◌, ◌<ℤ◌, sym, refl, ap, ◌∙◌, subst, inl, inr, arith}
+use Rattle.std.proofs.Common.{◌≡◌, ℕ, suc, ◌*◌, ◌≤◌, ◌≢◌, ◌⊎◌, List, [], ◌∷◌, length, ℤ, pos, ◌+ℤ◌, neg_ℤ, ◌≤ℤ◌, ◌<ℤ◌, All, Contains, sym, refl, ap, ◌∙◌, subst, inl, inr, arith}
 use native.Mathlib.Decide.{ℕ_discrete}
 use lib.Signed.{≤ℤ_refl}
-use Rattle.std.specs.List.{ContainsAt as Has, AllByRecursion as All}
 use Rattle.std.proofs.lemmas.Int.{ints, by_lt_z}
-use Rattle.std.proofs.ByRecursion.{all-has}
+use Rattle.std.proofs.lemmas.List.Elements.{All-nil, All-cons, All-contains}
 use Rattle.graph.specs.declared.Edge.{Edge}
 use Rattle.graph.specs.Graph.{EdgeHolds, Solution, Feasible, Walk, total, NegativeCycle}
 use Rattle.graph.specs.Claims.{Among, Heavier}
@@ -20,12 +19,12 @@ vertices_length v [] = refl
 vertices_length v (e ∷ p) = ap suc (vertices_length e.from p)
 
 module _ (vs : List ℕ) (es : List Edge) (among : Among vs es) where
-  vertices_among : (v : ℕ) (p : List Edge) (u : ℕ) → Has vs v → Walk es v p u → All (Has vs) (vertices v p)
-  vertices_among v [] u h w = (h, tt)
-  vertices_among v (e ∷ p) u h w = (h, vertices_among e.from p u (all-has (λ e. Has vs e.to × Has vs e.from) es e among w.0).1 w.2)
+  vertices_among : (v : ℕ) (p : List Edge) (u : ℕ) → Contains vs v → Walk es v p u → All (Contains vs) (vertices v p)
+  vertices_among v [] u h w = All-cons (Contains vs) v [] h (All-nil _)
+  vertices_among v (e ∷ p) u h w = All-cons (Contains vs) v (vertices e.from p) h (vertices_among e.from p u (All-contains (λ e. Contains vs e.to × Contains vs e.from) es e among w.0).1 w.2)
 
   -- a walk that meets no vertex twice is short
-  pub simple_short : (v : ℕ) (p : List Edge) (u : ℕ) → Has vs v → Walk es v p u → Distinct (vertices v p) → suc (length p) ≤ length vs
+  pub simple_short : (v : ℕ) (p : List Edge) (u : ℕ) → Contains vs v → Walk es v p u → Distinct (vertices v p) → suc (length p) ≤ length vs
   simple_short v p u h w a = omega (arith, vertices_length v p, pigeonhole vs (vertices v p) a (vertices_among v p u h w))
 
 -- a walk q from u to x, cut at a vertex v that it meets
@@ -38,15 +37,15 @@ Simple es v p u = (q : List Edge) × Walk es v q u × Distinct (vertices v q) ×
 
 module _ (es : List Edge) where
   cut : (v x : ℕ) (q : List Edge) (u : ℕ) → Walk es x q u → Distinct (vertices x q) → Cut es v x q u ⊎ NotIn v (vertices x q)
-  cut v x [] u w d = elim (ℕ_discrete v x) [ yes e ↦ inl ([], [], sym e, e ∙ w, (tt, tt), refl) | no f ↦ inr (f, tt) ]
+  cut v x [] u w d = elim (ℕ_discrete v x) [ yes e ↦ inl ([], [], sym e, e ∙ w, (All-nil _, tt), refl) | no f ↦ inr (All-cons (λ y. v ≢ y) x [] f (All-nil _)) ]
   cut v x (e ∷ q) u w d = elim (ℕ_discrete v x) [ yes s ↦ inl ([], e ∷ q, sym s, (w.0, w.1 ∙ sym s, w.2), subst (λ (i : ℕ). Distinct (vertices i (e ∷ q))) (sym s) d, omega (arith, ints)) | no f ↦ longer f (cut v e.from q u w.2 d.1) ]
     where
       longer : v ≢ x → Cut es v e.from q u ⊎ NotIn v (vertices e.from q) → Cut es v x (e ∷ q) u ⊎ NotIn v (vertices x (e ∷ q))
       longer f (inl c) = inl (e ∷ c.0, c.1, (w.0, w.1, c.2), c.3, c.4, (let h : total q ≡ total c.0 +ℤ total c.1 = c.5 in omega (arith, ints)))
-      longer f (inr o) = inr (f, o)
+      longer f (inr o) = inr (All-cons (λ y. v ≢ y) x (vertices e.from q) f o)
 
   pub simplify : (v : ℕ) (p : List Edge) (u : ℕ) → Walk es v p u → NegativeCycle es ⊎ Simple es v p u
-  simplify v [] u w = inr ([], w, (tt, tt), ≤ℤ_refl (pos 0))
+  simplify v [] u w = inr ([], w, (All-nil _, tt), ≤ℤ_refl (pos 0))
   simplify v (e ∷ p) u w = longer (simplify e.from p u w.2)
     where
       -- the vertex v is new, or the walk back to it is a cycle that can be left out
@@ -65,7 +64,7 @@ module _ (es : List Edge) where
   walk_holds : (x : ℕ → ℤ) → Solution es x → (v : ℕ) (p : List Edge) (u : ℕ) → Walk es v p u → x v ≤ℤ (x u +ℤ total p)
   walk_holds x s v [] u w = let a : x v ≡ x u = ap x w in omega (arith, ints)
   walk_holds x s v (e ∷ p) u w =
-      let a : x e.to ≤ℤ (x e.from +ℤ e.weight) = all-has (EdgeHolds x) es e s w.0 in
+      let a : x e.to ≤ℤ (x e.from +ℤ e.weight) = All-contains (EdgeHolds x) es e s w.0 in
       let b : x e.from ≤ℤ (x u +ℤ total p) = walk_holds x s e.from p u w.2 in
       let c : x e.to ≡ x v = ap x w.1 in
       omega (arith, ints)
@@ -79,6 +78,6 @@ module _ (es : List Edge) where
   pub walk_weight : (w : ℕ) → Heavier w es → (v : ℕ) (p : List Edge) (u : ℕ) → Walk es v p u → neg_ℤ (pos (length p * w)) ≤ℤ total p
   walk_weight w h v [] u k = omega (arith, ints)
   walk_weight w h v (e ∷ p) u k =
-      let a : neg_ℤ (pos w) ≤ℤ e.weight = all-has (λ e. neg_ℤ (pos w) ≤ℤ e.weight) es e h k.0 in
+      let a : neg_ℤ (pos w) ≤ℤ e.weight = All-contains (λ e. neg_ℤ (pos w) ≤ℤ e.weight) es e h k.0 in
       let b : neg_ℤ (pos (length p * w)) ≤ℤ total p = walk_weight w h e.from p u k.2 in
       omega (arith, ints)

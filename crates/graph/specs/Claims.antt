@@ -1,6 +1,5 @@
 -- What is claimed of the distances after some rounds. The proofs have a lemma of each claim's type.
-use Rattle.std.specs.Prelude.{◌≡◌, ℕ, suc, pred, ◌*◌, ◌<◌, ◌≤◌, true, false, List, length, ℤ, pos, neg_ℤ, ◌≤ℤ◌}
-use Rattle.std.specs.List.{ContainsAt as Has, AllByRecursion as All}
+use Rattle.std.specs.Prelude.{◌≡◌, ℕ, suc, pred, ◌*◌, ◌<◌, ◌≤◌, true, false, List, length, ℤ, pos, neg_ℤ, ◌≤ℤ◌, All, Contains}
 use Rattle.graph.specs.declared.Edge.{Edge}
 use Rattle.graph.specs.Graph.{Within, Solution, Feasible, NegativeCycle, at, rounds, zeros, is_stable}
 
@@ -32,7 +31,7 @@ Decided n k es =
 
 -- every edge joins two vertices of the list vs
 abbrev pub Among : List ℕ → List Edge → Type 0
-Among vs es = All (λ e. Has vs e.to × Has vs e.from) es
+Among vs es = All (λ e. Contains vs e.to × Contains vs e.from) es
 
 -- as many rounds as vs is long, less one, decide, however many vertices without edges there are
 abbrev pub ExactAmong : Type 0
@@ -45,7 +44,7 @@ Heavier w es = All (λ e. neg_ℤ (pos w) ≤ℤ e.weight) es
 -- where there is a solution, no vertex of vs ever falls below -(length vs - 1) * w
 abbrev pub BoundedAmong : Type 0
 BoundedAmong = (n k w : ℕ) (vs : List ℕ) (es : List Edge) → Within n es → Among vs es → Feasible es → Heavier w es →
-    (v : ℕ) → v < n → Has vs v → neg_ℤ (pos (pred (length vs) * w)) ≤ℤ at (after n k es) v
+    (v : ℕ) → v < n → Contains vs v → neg_ℤ (pos (pred (length vs) * w)) ≤ℤ at (after n k es) v
 
 -- no round changes stable distances, so a loop may end early
 abbrev pub Early : Type 0

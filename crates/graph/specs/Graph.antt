@@ -1,6 +1,5 @@
 -- Difference constraints as a graph: solutions, walks, and the distances that relaxing the edges makes.
-use Rattle.std.specs.Prelude.{◌≡◌, ℕ, zero, suc, ◌<◌, Bool, true, if◌then◌else◌, not, ◌&&◌, List, [], ◌∷◌, ℤ, pos, ◌+ℤ◌, ◌≤ℤ◌, ◌<ℤ◌, int_lt, slice_index_or, slice_set}
-use Rattle.std.specs.List.{ContainsAt as Has, AllByRecursion as All}
+use Rattle.std.specs.Prelude.{◌≡◌, ℕ, zero, suc, ◌<◌, Bool, true, if◌then◌else◌, not, ◌&&◌, List, [], ◌∷◌, ℤ, pos, ◌+ℤ◌, ◌≤ℤ◌, ◌<ℤ◌, int_lt, slice_index_or, slice_set, All, Contains}
 use Rattle.graph.specs.declared.Edge.{Edge}
 
 -- both ends of every edge are below n
@@ -20,7 +19,7 @@ Feasible es = (x : ℕ → ℤ) × Solution es x
 -- a walk along edges of es from u to v, its last edge first
 abbrev pub Walk : List Edge → ℕ → List Edge → ℕ → Type 0
 Walk es v [] u = v ≡ u
-Walk es v (e ∷ p) u = Has es e × (e.to ≡ v) × Walk es e.from p u
+Walk es v (e ∷ p) u = Contains es e × (e.to ≡ v) × Walk es e.from p u
 
 -- the weight of a walk
 abbrev pub total : List Edge → ℤ

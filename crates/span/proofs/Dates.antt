@@ -1,9 +1,8 @@
 -- The distances, counted from zero's, are the dates: the greatest numbers not above 0 that fit, with zero's subtracted.
-use Rattle.std.specs.Prelude.{◌≡◌, ℕ, zero, suc, pred, ◌+◌, ◌-◌, ◌*◌, ◌<◌, ◌≤◌, Bool, true, false, cond, List, [], ◌∷◌, ◌++◌, map, length, get_or, take, set, replicate, ℤ, pos, negsuc, ◌+ℤ◌, ◌-ℤ◌, neg_ℤ, ◌≤ℤ◌, ◌<ℤ◌, ◌==◌, int_lt, nat_eq, slice_index, slice_index_or, slice_set, refl}
+use Rattle.std.specs.Prelude.{◌≡◌, ℕ, zero, suc, pred, ◌+◌, ◌-◌, ◌*◌, ◌<◌, ◌≤◌, Bool, true, false, cond, List, [], ◌∷◌, ◌++◌, map, length, get_or, take, set, replicate, ℤ, pos, negsuc, ◌+ℤ◌, ◌-ℤ◌, neg_ℤ, ◌≤ℤ◌, ◌<ℤ◌, ◌==◌, int_lt, nat_eq, slice_index, slice_index_or, slice_set, All, Contains, refl}
 use Rattle.std.proofs.Common.{sym, ap, subst, ◌∙◌, inl, inr, arith, to_z, of_z}
 use Rattle.std.specs.Int.{w64}
-use Rattle.std.specs.List.{ContainsAt as Has, AllByRecursion as All}
-use Rattle.std.proofs.ByRecursion.{All-from_get_or, All-get_or, all-has, all_has_itself, All-weaker, has_get_or}
+use Rattle.std.proofs.lemmas.List.Elements.{All-nil, All-cons, All-head, All-tail, All-get_or, All-from_get_or, All-weaker, All-contains, Contains-get_or, All-contains_itself}
 use Rattle.std.proofs.lemmas.List.{get_or-map, length-take-le, map_more, length-map}
 use Rattle.std.proofs.lemmas.Int.{ints}
 use Rattle.std.proofs.lemmas.Bool.{both_ways, cases_Bool, cond-true, cond-false, eq-eqb, eqb-true}
@@ -32,8 +31,7 @@ use Rattle.span.proofs.Pairs.{all_front}
 use Rattle.span.proofs.Solutions.{fits_solve, solutions_fit}
 
 all_both : {X : Type 0} (P Q R : X → Type 0) → ((x : X) → P x → Q x → R x) → (xs : List X) → All P xs → All Q xs → All R xs
-all_both P Q R f [] a b = tt
-all_both P Q R f (x ∷ xs) a b = (f x a.0 b.0, all_both P Q R f xs a.1 b.1)
+all_both P Q R f xs a b k d l = f (get_or xs k d) (a k d l) (b k d l)
 
 -- The array of dates, seat by seat
 pub stored : (d : List ℤ) (s : ℕ) (r : ℤ) → InLimits d s → InLimits d 0 → r ≡ at d s -ℤ at d 0 → to_z w64 (of_z w64 r) ≡ at d s -ℤ at d 0
@@ -57,7 +55,7 @@ date_next d ss ds k x l m e g =
     ∙ ap (λ xs. xs ++ replicate (8 - (k + 1)) (pos 0)) (sym (map_more f ss k 0 l))
 
 -- The date of a term by its seat
-date_of : (f : ℕ → ℤ) (ss : List ℕ) (i : ℕ) → Has ss i → date_at ss (map f ss) i ≡ f i
+date_of : (f : ℕ → ℤ) (ss : List ℕ) (i : ℕ) → Contains ss i → date_at ss (map f ss) i ≡ f i
 date_of f [] i (k, l, e) = absurd (omega arith)
 date_of f (s ∷ ss) i h =
     elim (cases_Bool (s == i)) [
@@ -65,8 +63,8 @@ date_of f (s ∷ ss) i h =
       | inr e ↦ cond-false (s == i) (f s) (date_at ss (map f ss) i) e ∙ date_of f ss i (later e h)
     ]
   where
-    later : nat_eq s i ≡ false → Has (s ∷ ss) i → Has ss i
-    later n (zero, l, e) = absurd (both_ways (s == i) n (eq-eqb s i (e 0)))
+    later : nat_eq s i ≡ false → Contains (s ∷ ss) i → Contains ss i
+    later n (zero, l, e) = absurd (both_ways (s == i) n (eq-eqb s i e))
     later n (suc k, l, e) = (k, omega arith, e)
 
 -- The dates are right. The numbers that fit and are not above 0 at a seat are cut off at 0 elsewhere: no edge leads there
@@ -106,29 +104,29 @@ module _ (ts : List Term) (ms : List Noted) (codes : List ℕ) (zeroth : all_ter
     pub fitting : SpanFits ts (active ms) codes (at d)
     fitting = solutions_fit ts (active ms) codes (at d) placed best.0.0
 
-    pub in_limits : (s : ℕ) → Has ss s → InLimits d s
+    pub in_limits : (s : ℕ) → Contains ss s → InLimits d s
     in_limits s h =
-        let i : s < 32 = (let k = all-has (λ x. x < length ts) ss s (seats_within ts) h in omega arith) in
+        let i : s < 32 = (let k = All-contains (λ x. x < length ts) ss s (seats_within ts) h in omega arith) in
         let b : neg_ℤ (pos (pred (length ss) * 1000000)) ≤ℤ at d s = bounded_among 32 (length ss) 1000000 ss es (edges_within ts es few fits) (edges_among ss es fits) (at d, best.0.0) (edges_heavier ss es fits) s i h in
         let m : pred (length ss) ≤ 7 = omega arith in
         (i, omega (arith, ints), best.0.1 s i)
 
     pub all_in_limits : All (InLimits d) ss
-    all_in_limits = All-weaker (Has ss) (InLimits d) in_limits ss (all_has_itself ss)
+    all_in_limits = All-weaker (Contains ss) (InLimits d) in_limits ss (All-contains_itself ss)
 
     pub zero_in_limits : InLimits d 0
     zero_in_limits = let z = seat_of_zero ts zeroth in subst (InLimits d) z.1 (All-get_or (InLimits d) ss 0 0 z.0 all_in_limits)
 
     lower : (v : Numbers) → SpanFits ts (active ms) codes v → ((q : ℕ) → q < length ss → seat_numbers ts v q ≤ℤ pos 0) → (p : ℕ) → p < length ss → seat_numbers ts v p ≤ℤ seat_numbers ts (at d) p
     lower v f low p l =
-        let same : (s : ℕ) → Has ss s → cut_off v s ≡ v s = λ s h. cut_same v s (all-has (λ x. v x ≤ℤ pos 0) ss s (All-from_get_or (λ x. v x ≤ℤ pos 0) ss 0 low) h) in
+        let same : (s : ℕ) → Contains ss s → cut_off v s ≡ v s = λ s h. cut_same v s (All-contains (λ x. v x ≤ℤ pos 0) ss s (All-from_get_or (λ x. v x ≤ℤ pos 0) ss 0 low) h) in
         let solves : Solution es (cut_off v) =
         all_both (EdgeFits ss) (EdgeHolds v) (EdgeHolds (cut_off v))
         (λ e g h. let a = same e.to g.0 in let b = same e.from g.1 in let k : v e.to ≤ℤ (v e.from +ℤ e.weight) = h in omega (arith, ints))
         es fits (fits_solve ts (active ms) codes v f) in
         let i = seat_low p l in
         let m : cut_off v (slice_index ss p) ≤ℤ at d (slice_index ss p) = best.1 (cut_off v) (solves, λ t _. cut_low v t) (slice_index ss p) i in
-        let n : cut_off v (slice_index ss p) ≡ v (slice_index ss p) = same (slice_index ss p) (has_get_or ss p 0 l) in
+        let n : cut_off v (slice_index ss p) ≡ v (slice_index ss p) = same (slice_index ss p) (Contains-get_or ss p 0 l) in
         omega (arith, ints)
 
     seat_date : (p : ℕ) → p < length ss → slice_index_or (from_zero d ss) p (pos 0) ≡ seat_numbers ts (at d) p -ℤ at d 0
@@ -147,14 +145,14 @@ module _ (ts : List Term) (ms : List Noted) (codes : List ℕ) (zeroth : all_ter
 
     -- a counted row holds of the dates
     rows_dated : (rows : List Row) → All (EdgeFits ss) (row_edges rows) → All (SpanHolds (at d)) rows → All (CountedHolds counts_spans ts (from_zero d ss)) rows
-    rows_dated [] f h = tt
+    rows_dated [] f h = All-nil _
     rows_dated (Span i j c ∷ rows) f h =
-        let x = date_of (λ s. at d s -ℤ at d 0) ss i f.0.0 in
-        let y = date_of (λ s. at d s -ℤ at d 0) ss j f.0.1 in
-        let k : (at d i -ℤ at d j) ≤ℤ c = h.0 in
-        ((λ _. let r : (date_at ss (from_zero d ss) i -ℤ date_at ss (from_zero d ss) j) ≤ℤ c = omega (arith, ints) in r), rows_dated rows f.1 h.1)
-    rows_dated (Same i j ∷ rows) f h = ((λ e. absurd (both_ways false refl e)), rows_dated rows f h.1)
-    rows_dated (Unlike i j ∷ rows) f h = ((λ e. absurd (both_ways false refl e)), rows_dated rows f h.1)
+        let x = date_of (λ s. at d s -ℤ at d 0) ss i (All-head (EdgeFits ss) _ _ f).0 in
+        let y = date_of (λ s. at d s -ℤ at d 0) ss j (All-head (EdgeFits ss) _ _ f).1 in
+        let k : (at d i -ℤ at d j) ≤ℤ c = All-head (SpanHolds (at d)) _ _ h in
+        All-cons (CountedHolds counts_spans ts (from_zero d ss)) _ _ (λ _. let r : (date_at ss (from_zero d ss) i -ℤ date_at ss (from_zero d ss) j) ≤ℤ c = omega (arith, ints) in r) (rows_dated rows (All-tail (EdgeFits ss) _ _ f) (All-tail (SpanHolds (at d)) _ _ h))
+    rows_dated (Same i j ∷ rows) f h = All-cons (CountedHolds counts_spans ts (from_zero d ss)) _ _ (λ e. absurd (both_ways false refl e)) (rows_dated rows f (All-tail (SpanHolds (at d)) _ _ h))
+    rows_dated (Unlike i j ∷ rows) f h = All-cons (CountedHolds counts_spans ts (from_zero d ss)) _ _ (λ e. absurd (both_ways false refl e)) (rows_dated rows f (All-tail (SpanHolds (at d)) _ _ h))
 
     date_order : InOrder (ranks codes) (λ p. get_or (from_zero d ss) p (pos 0))
     date_order =

@@ -1,8 +1,7 @@
 -- The edges of the constraints join seats, and none weighs less than the least bound.
-use Rattle.std.specs.Prelude.{◌≡◌, ℕ, ◌<◌, ◌≤◌, Bool, true, false, cond, not, ◌&&◌, List, [], ◌∷◌, length, pos, negsuc, neg_ℤ, ◌≤ℤ◌, int_lt, nat_lt, slice_index}
+use Rattle.std.specs.Prelude.{◌≡◌, ℕ, ◌<◌, ◌≤◌, Bool, true, false, cond, not, ◌&&◌, List, [], ◌∷◌, length, pos, negsuc, neg_ℤ, ◌≤ℤ◌, int_lt, nat_lt, slice_index, All, Contains}
 use Rattle.std.proofs.Common.{arith}
-use Rattle.std.specs.List.{ContainsAt as Has, AllByRecursion as All}
-use Rattle.std.proofs.ByRecursion.{All-append, all-has, All-weaker, has_get_or}
+use Rattle.std.proofs.lemmas.List.Elements.{All-nil, All-cons, All-append, All-weaker, All-contains, Contains-get_or}
 use Rattle.std.proofs.lemmas.Int.{ints}
 use Rattle.std.proofs.lemmas.Bool.{and_parts, ltb-true, not-true, not-false, or_parts}
 use Rattle.graph.specs.declared.Edge.{Edge}
@@ -23,7 +22,7 @@ use Rattle.span.proofs.Pairs.{all_order}
 
 -- both ends are seats, and the weight is a bound
 abbrev pub EdgeFits : List ℕ → Edge → Type 0
-EdgeFits ss e = Has ss e.to × Has ss e.from × (neg_ℤ (pos 1000000) ≤ℤ e.weight)
+EdgeFits ss e = Contains ss e.to × Contains ss e.from × (neg_ℤ (pos 1000000) ≤ℤ e.weight)
 
 row_edges_fit : (ts : List Term) (r : Row) (rows : List Row) → row_fits ts r ≡ true → All (EdgeFits (seats_of ts)) (row_edges rows) → All (EdgeFits (seats_of ts)) (row_edges (r ∷ rows))
 row_edges_fit ts (Span i j c) rows f a =
@@ -34,12 +33,12 @@ row_edges_fit ts (Span i j c) rows f a =
     let w = or_parts (int_lt c (negsuc 999999)) (int_lt (pos 1000000) c) (not-true (bound_past_limit (Span i j c)) q.1) in
     let low : int_lt c (negsuc 999999) ≡ false = w.0 in
     let heavy : neg_ℤ (pos 1000000) ≤ℤ c = grind (arith, ints) in
-    ((seats_have ts i (ltb-true i (length ts) b.0) d.0, seats_have ts j (ltb-true j (length ts) b.1) d.1, heavy), a)
+    All-cons (EdgeFits (seats_of ts)) _ _ (seats_have ts i (ltb-true i (length ts) b.0) d.0, seats_have ts j (ltb-true j (length ts) b.1) d.1, heavy) a
 row_edges_fit ts (Same i j) rows f a = a
 row_edges_fit ts (Unlike i j) rows f a = a
 
 rows_fit : (ts : List Term) (ms : List Noted) → all_rows_fit ts ms ≡ true → All (EdgeFits (seats_of ts)) (row_edges (active ms))
-rows_fit ts [] f = tt
+rows_fit ts [] f = All-nil _
 rows_fit ts (m ∷ ms) f =
     let p = and_parts (row_fits ts m.row) (all_rows_fit ts ms) f in
     go m.active p.0 (rows_fit ts ms p.1)
@@ -48,7 +47,7 @@ rows_fit ts (m ∷ ms) f =
     go true f a = row_edges_fit ts m.row (active ms) f a
     go false f a = a
 
-pair_fits : (ss : List ℕ) (s r t q : ℕ) → Has ss s → Has ss t → All (EdgeFits ss) (pair_edges s r t q)
+pair_fits : (ss : List ℕ) (s r t q : ℕ) → Contains ss s → Contains ss t → All (EdgeFits ss) (pair_edges s r t q)
 pair_fits ss s r t q h k = go (nat_lt r q) (nat_lt q r)
   where
     one : neg_ℤ (pos 1000000) ≤ℤ negsuc 0
@@ -58,24 +57,24 @@ pair_fits ss s r t q h k = go (nat_lt r q) (nat_lt q r)
     none = omega (arith, ints)
 
     go : (a b : Bool) → All (EdgeFits ss) (cond a (edge s t (negsuc 0) ∷ []) (cond b (edge t s (negsuc 0) ∷ []) (edge s t (pos 0) ∷ edge t s (pos 0) ∷ [])))
-    go true b = ((h, k, one), tt)
-    go false true = ((k, h, one), tt)
-    go false false = ((h, k, none), ((k, h, none), tt))
+    go true b = All-cons (EdgeFits ss) (edge s t (negsuc 0)) [] (h, k, one) (All-nil _)
+    go false true = All-cons (EdgeFits ss) (edge t s (negsuc 0)) [] (k, h, one) (All-nil _)
+    go false false = All-cons (EdgeFits ss) (edge s t (pos 0)) (edge t s (pos 0) ∷ []) (h, k, none) (All-cons (EdgeFits ss) (edge t s (pos 0)) [] (k, h, none) (All-nil _))
 
 pub constraints_fit : (ts : List Term) (ms : List Noted) (codes : List ℕ) → all_rows_fit ts ms ≡ true → All (EdgeFits (seats_of ts)) (constraints ts (active ms) codes)
 constraints_fit ts ms codes f =
     let ss = seats_of ts in
     All-append (EdgeFits ss) (row_edges (active ms)) (order_edges ss (ranks codes)) (rows_fit ts ms f)
-    (all_order (EdgeFits ss) ss (ranks codes) (λ p q b l m. pair_fits ss (slice_index ss p) (slice_index (ranks codes) p) (slice_index ss q) (slice_index (ranks codes) q) (has_get_or ss p 0 (omega arith)) (has_get_or ss q 0 l)))
+    (all_order (EdgeFits ss) ss (ranks codes) (λ p q b l m. pair_fits ss (slice_index ss p) (slice_index (ranks codes) p) (slice_index ss q) (slice_index (ranks codes) q) (Contains-get_or ss p 0 (omega arith)) (Contains-get_or ss q 0 l)))
 
 pub edges_within : (ts : List Term) (es : List Edge) → length ts ≤ 32 → All (EdgeFits (seats_of ts)) es → Within 32 es
 edges_within ts es l a =
     All-weaker (EdgeFits (seats_of ts)) (λ e. (e.to < 32) × (e.from < 32))
-    (λ e f. let x = all-has (λ s. s < length ts) (seats_of ts) e.to (seats_within ts) f.0 in let y = all-has (λ s. s < length ts) (seats_of ts) e.from (seats_within ts) f.1 in (omega arith, omega arith))
+    (λ e f. let x = All-contains (λ s. s < length ts) (seats_of ts) e.to (seats_within ts) f.0 in let y = All-contains (λ s. s < length ts) (seats_of ts) e.from (seats_within ts) f.1 in (omega arith, omega arith))
     es a
 
 pub edges_among : (ss : List ℕ) (es : List Edge) → All (EdgeFits ss) es → Among ss es
-edges_among ss es a = All-weaker (EdgeFits ss) (λ e. Has ss e.to × Has ss e.from) (λ e f. (f.0, f.1)) es a
+edges_among ss es a = All-weaker (EdgeFits ss) (λ e. Contains ss e.to × Contains ss e.from) (λ e f. (f.0, f.1)) es a
 
 pub edges_heavier : (ss : List ℕ) (es : List Edge) → All (EdgeFits ss) es → Heavier 1000000 es
 edges_heavier ss es a = All-weaker (EdgeFits ss) (λ e. neg_ℤ (pos 1000000) ≤ℤ e.weight) (λ e f. f.2) es a

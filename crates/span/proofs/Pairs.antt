@@ -1,8 +1,8 @@
 -- What holds of every edge of the order holds of each pair of seats, and the other way round.
-use Rattle.std.specs.Prelude.{◌≡◌, ℕ, zero, suc, ◌<◌, ◌≤◌, List, [], ◌∷◌, ◌++◌, length, pos, negsuc, ◌+ℤ◌, ◌≤ℤ◌, ◌<ℤ◌, slice_index}
+use Rattle.std.specs.Prelude.{◌≡◌, ℕ, zero, suc, ◌+◌, ◌<◌, ◌≤◌, List, [], ◌∷◌, ◌++◌, length, pos, negsuc, ◌+ℤ◌, ◌≤ℤ◌, ◌<ℤ◌, slice_index, All}
 use Rattle.std.proofs.Common.{sym, subst, inl, inr, arith}
-use Rattle.std.specs.List.{AllByRecursion as All}
-use Rattle.std.proofs.ByRecursion.{All-append}
+use Rattle.std.proofs.lemmas.List.Elements.{All-nil, All-cons, All-append}
+use Rattle.std.proofs.lemmas.List.{get_or_append_left, get_or-append-add, length-append}
 use Rattle.std.proofs.lemmas.Int.{ints}
 use Rattle.std.proofs.lemmas.Bool.{cases_order, lt-ltb, le-ltb}
 use Rattle.graph.specs.declared.Edge.{Edge}
@@ -12,12 +12,10 @@ use Rattle.span.specs.Constraints.{edge, pair_edges, edges_with, order_edges}
 use Rattle.span.proofs.Parts.{pair_equal}
 
 pub all_front : {X : Type 0} (P : X → Type 0) (xs ys : List X) → All P (xs ++ ys) → All P xs
-all_front P [] ys a = tt
-all_front P (x ∷ xs) ys a = (a.0, all_front P xs ys a.1)
+all_front P xs ys a k d l = subst P (get_or_append_left xs ys d k l) (a k d (omega (arith, length-append xs ys)))
 
 pub all_back : {X : Type 0} (P : X → Type 0) (xs ys : List X) → All P (xs ++ ys) → All P ys
-all_back P [] ys a = a
-all_back P (x ∷ xs) ys a = all_back P xs ys a.1
+all_back P xs ys a k d l = subst P (get_or-append-add xs ys k d) (a (length xs + k) d (omega (arith, length-append xs ys)))
 
 -- the edges of a pair, by the order of its ranks
 pair_below : (s r t q : ℕ) → r < q → pair_edges s r t q ≡ edge s t (negsuc 0) ∷ []
@@ -38,16 +36,16 @@ pair_order v s r t q a = record {
       let l : q ≤ r = omega arith in
       let m : r ≤ q = omega arith in
       let h = subst (All (EdgeHolds v)) (pair_equal s r t q l m) a in
-      let x : v s ≤ℤ (v t +ℤ pos 0) = h.0 in
-      let y : v t ≤ℤ (v s +ℤ pos 0) = h.1.0 in
+      let x : v s ≤ℤ (v t +ℤ pos 0) = h 0 (edge s t (pos 0)) (omega arith) in
+      let y : v t ≤ℤ (v s +ℤ pos 0) = h 1 (edge t s (pos 0)) (omega arith) in
       omega (arith, ints);
   less = λ l.
       let h = subst (All (EdgeHolds v)) (pair_below s r t q l) a in
-      let x : v s ≤ℤ (v t +ℤ negsuc 0) = h.0 in
+      let x : v s ≤ℤ (v t +ℤ negsuc 0) = h 0 (edge s t (negsuc 0)) (omega arith) in
       omega (arith, ints);
   more = λ l.
       let h = subst (All (EdgeHolds v)) (pair_above s r t q l) a in
-      let x : v t ≤ℤ (v s +ℤ negsuc 0) = h.0 in
+      let x : v t ≤ℤ (v s +ℤ negsuc 0) = h 0 (edge t s (negsuc 0)) (omega arith) in
       omega (arith, ints);
 }
 
@@ -60,16 +58,16 @@ order_pair v s r t q o =
           let z : v s ≡ v t = o.same e in
           let x : v s ≤ℤ (v t +ℤ pos 0) = omega (arith, ints) in
           let y : v t ≤ℤ (v s +ℤ pos 0) = omega (arith, ints) in
-          subst (All (EdgeHolds v)) (sym (pair_equal s r t q l m)) (x, (y, tt))
+          subst (All (EdgeHolds v)) (sym (pair_equal s r t q l m)) (All-cons (EdgeHolds v) (edge s t (pos 0)) (edge t s (pos 0) ∷ []) x (All-cons (EdgeHolds v) (edge t s (pos 0)) [] y (All-nil _)))
       | inr k ↦ elim k [
         | inl l ↦
             let z : v s <ℤ v t = o.less l in
             let x : v s ≤ℤ (v t +ℤ negsuc 0) = omega (arith, ints) in
-            subst (All (EdgeHolds v)) (sym (pair_below s r t q l)) (x, tt)
+            subst (All (EdgeHolds v)) (sym (pair_below s r t q l)) (All-cons (EdgeHolds v) (edge s t (negsuc 0)) [] x (All-nil _))
         | inr l ↦
             let z : v t <ℤ v s = o.more l in
             let x : v t ≤ℤ (v s +ℤ negsuc 0) = omega (arith, ints) in
-            subst (All (EdgeHolds v)) (sym (pair_above s r t q l)) (x, tt)
+            subst (All (EdgeHolds v)) (sym (pair_above s r t q l)) (All-cons (EdgeHolds v) (edge t s (negsuc 0)) [] x (All-nil _))
       ]
     ]
 
@@ -90,13 +88,13 @@ module _ (P : Edge → Type 0) where
   order_at (s ∷ ss) (r ∷ rs) (suc p) (suc q) a b l m = order_at ss rs p q (all_back P (edges_with s r ss rs) (order_edges ss rs) a) (omega arith) (omega arith) (omega arith)
 
   all_with : (s r : ℕ) (ss rs : List ℕ) → ((q : ℕ) → q < length ss → q < length rs → All P (pair_edges s r (slice_index ss q) (slice_index rs q))) → All P (edges_with s r ss rs)
-  all_with s r [] rs f = tt
-  all_with s r (t ∷ ss) [] f = tt
+  all_with s r [] rs f = All-nil _
+  all_with s r (t ∷ ss) [] f = All-nil _
   all_with s r (t ∷ ss) (u ∷ rs) f = All-append P (pair_edges s r t u) (edges_with s r ss rs) (f 0 (omega arith) (omega arith)) (all_with s r ss rs (λ q l m. f (suc q) (omega arith) (omega arith)))
 
   pub all_order : (ss rs : List ℕ) → ((p q : ℕ) → p < q → q < length ss → q < length rs → All P (pair_edges (slice_index ss p) (slice_index rs p) (slice_index ss q) (slice_index rs q))) → All P (order_edges ss rs)
-  all_order [] rs f = tt
-  all_order (s ∷ ss) [] f = tt
+  all_order [] rs f = All-nil _
+  all_order (s ∷ ss) [] f = All-nil _
   all_order (s ∷ ss) (r ∷ rs) f =
       All-append P (edges_with s r ss rs) (order_edges ss rs)
       (all_with s r ss rs (λ q l m. f 0 (suc q) (omega arith) (omega arith) (omega arith)))

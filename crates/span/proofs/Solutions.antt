@@ -1,8 +1,7 @@
 -- Numbers that fit the rows and the codes are the solutions of the constraints.
-use Rattle.std.specs.Prelude.{◌≡◌, ℕ, ◌≤◌, List, [], ◌∷◌, length, ◌+ℤ◌, ◌-ℤ◌, ◌≤ℤ◌, slice_index, slice_index_or}
+use Rattle.std.specs.Prelude.{◌≡◌, ℕ, ◌≤◌, List, [], ◌∷◌, length, ◌+ℤ◌, ◌-ℤ◌, ◌≤ℤ◌, slice_index, slice_index_or, All}
 use Rattle.std.proofs.Common.{sym, ap, inl, inr, arith}
-use Rattle.std.specs.List.{AllByRecursion as All}
-use Rattle.std.proofs.ByRecursion.{All-append}
+use Rattle.std.proofs.lemmas.List.Elements.{All-nil, All-cons, All-head, All-tail, All-append}
 use Rattle.std.proofs.lemmas.Int.{ints}
 use Rattle.std.proofs.lemmas.Bool.{cases_order}
 use Rattle.graph.specs.Graph.{EdgeHolds, Solution}
@@ -18,16 +17,16 @@ use Rattle.span.specs.Constraints.{constraints, order_edges, row_edges}
 use Rattle.span.proofs.Pairs.{all_back, all_front, all_order, order_at, order_pair, pair_order}
 
 rows_solved : (v : Numbers) (rows : List Row) → All (SpanHolds v) rows → All (EdgeHolds v) (row_edges rows)
-rows_solved v [] h = tt
-rows_solved v (Span i j c ∷ rows) h = (let a : (v i -ℤ v j) ≤ℤ c = h.0 in let b : v i ≤ℤ (v j +ℤ c) = omega (arith, ints) in b, rows_solved v rows h.1)
-rows_solved v (Same i j ∷ rows) h = rows_solved v rows h.1
-rows_solved v (Unlike i j ∷ rows) h = rows_solved v rows h.1
+rows_solved v [] h = All-nil _
+rows_solved v (Span i j c ∷ rows) h = let a : (v i -ℤ v j) ≤ℤ c = All-head (SpanHolds v) _ _ h in let b : v i ≤ℤ (v j +ℤ c) = omega (arith, ints) in All-cons (EdgeHolds v) _ _ b (rows_solved v rows (All-tail (SpanHolds v) _ _ h))
+rows_solved v (Same i j ∷ rows) h = rows_solved v rows (All-tail (SpanHolds v) _ _ h)
+rows_solved v (Unlike i j ∷ rows) h = rows_solved v rows (All-tail (SpanHolds v) _ _ h)
 
 rows_hold : (v : Numbers) (rows : List Row) → All (EdgeHolds v) (row_edges rows) → All (SpanHolds v) rows
-rows_hold v [] h = tt
-rows_hold v (Span i j c ∷ rows) h = (let a : v i ≤ℤ (v j +ℤ c) = h.0 in let b : (v i -ℤ v j) ≤ℤ c = omega (arith, ints) in b, rows_hold v rows h.1)
-rows_hold v (Same i j ∷ rows) h = (tt, rows_hold v rows h)
-rows_hold v (Unlike i j ∷ rows) h = (tt, rows_hold v rows h)
+rows_hold v [] h = All-nil _
+rows_hold v (Span i j c ∷ rows) h = let a : v i ≤ℤ (v j +ℤ c) = All-head (EdgeHolds v) _ _ h in let b : (v i -ℤ v j) ≤ℤ c = omega (arith, ints) in All-cons (SpanHolds v) _ _ b (rows_hold v rows (All-tail (EdgeHolds v) _ _ h))
+rows_hold v (Same i j ∷ rows) h = All-cons (SpanHolds v) _ _ tt (rows_hold v rows h)
+rows_hold v (Unlike i j ∷ rows) h = All-cons (SpanHolds v) _ _ tt (rows_hold v rows h)
 
 -- the order of the ranks, as edges
 order_solved : (v : Numbers) (ss rs : List ℕ) → InOrder rs (λ p. v (slice_index ss p)) → All (EdgeHolds v) (order_edges ss rs)

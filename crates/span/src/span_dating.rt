@@ -1,9 +1,8 @@
 // The span engine's dates.
-ghost use Rattle.std.specs.Prelude.{◌≡◌, ℕ, ◌-◌, ◌≤◌, Bool, List, ◌++◌, length, replicate, pos, ◌-ℤ◌};
+ghost use Rattle.std.specs.Prelude.{◌≡◌, ℕ, ◌-◌, ◌≤◌, Bool, List, ◌++◌, length, replicate, pos, ◌-ℤ◌, All};
 ghost use Rattle.engine.specs.Dates.{GreatestDates};
 ghost use Rattle.graph.specs.Graph.{at};
 ghost use Rattle.span.specs.Dating.{InLimits, counts_spans, from_zero};
-ghost use Rattle.std.specs.List.{AllByRecursion as All};
 ghost use Rattle.engine.proofs.Laws.{same_greatest_dates};
 
 use crate::span::Span;

@@ -1,5 +1,5 @@
 use Rattle.std.proofs.Common.{◌≡◌, ◌-◌, ◌++◌, length, get_or, replicate, ℤ, pos, ◌∙◌, arith, length-set, w64, to_z, of_z}
-use Rattle.std.proofs.ByRecursion.{All-get_or}
+use Rattle.std.proofs.lemmas.List.Elements.{All-get_or}
 use Rattle.std.proofs.lemmas.List.{take_all}
 use Rattle.span.specs.Dating.{InLimits, from_zero}
 use Rattle.span.proofs.Dates.{date_next, stored}

@@ -1,5 +1,4 @@
-use Rattle.std.proofs.Common.{◌≡◌, ◌-◌, ◌++◌, length, replicate, pos, sym, ap, ◌∙◌, subst, inl, inr, arith}
-use Rattle.std.specs.List.{AllByRecursion as All}
+use Rattle.std.proofs.Common.{◌≡◌, ◌-◌, ◌++◌, length, replicate, pos, All, sym, ap, ◌∙◌, subst, inl, inr, arith}
 use Rattle.graph.specs.Claims.{after}
 use Rattle.graph.specs.Graph.{at, zeros}
 use Rattle.graph.proofs.Relaxing.{rounds_length}
