@@ -458,7 +458,6 @@ fn marks_and_codes_are_refused_in_order(rt: HostRuntime) -> Result<(), Fail> {
 #[test]
 fn its_letter_is_s(rt: HostRuntime) {
     assert_eq!(rt; <Span as Engine>::LETTER, 'S');
-    assert_eq!(rt; <Span as Engine>::letter_of(), 'S');
 }
 
 // The sixty-fifth row is refused, before anything else is asked of it.
