@@ -1,14 +1,14 @@
 -- How much an engine holds at most, of its lists.
 use Rattle.std.proofs.Common.{◌≡◌, ◌≤◌, length, vec_items, vec_len, ap, ◌∙◌, arith}
 use Rattle.engine.specs.declared.holdings.Holdings.{Holdings}
-use Rattle.engine.specs.Holding.{held}
+use Rattle.engine.specs.Holding.{state_of}
 use Rattle.engine.specs.Terms.{seats_of}
 
 pub record Bounds (h : Holdings) : Type 0 where
-  pub terms : length (held h).terms ≤ 32
-  pub seats : length (seats_of (held h).terms) ≤ 8
-  pub rows : length (held h).rows ≤ 64
-  pub placed : length (held h).codes ≤ length (seats_of (held h).terms)
+  pub terms : length (state_of h).terms ≤ 32
+  pub seats : length (seats_of (state_of h).terms) ≤ 8
+  pub rows : length (state_of h).rows ≤ 64
+  pub placed : length (state_of h).codes ≤ length (seats_of (state_of h).terms)
 
 pub bounds : (h : Holdings) → Bounds h
 bounds h =

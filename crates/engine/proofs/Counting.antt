@@ -3,7 +3,7 @@ use Rattle.std.proofs.Common.{◌≡◌, ℕ, ◌+◌, ◌<◌, ◌≤◌, Bool,
 use Rattle.std.proofs.lemmas.List.{at_drop_more, at_drop_all}
 use Rattle.sheet.specs.declared.term.Form.{Form}
 use Rattle.sheet.specs.declared.term.Term.{Term}
-use Rattle.engine.specs.Terms.{is_dated, dated_from, seats_of, at_odds, any_at_odds}
+use Rattle.engine.specs.Terms.{is_dated, dated_from, seats_of, counts_differ, any_count_differs}
 use Rattle.engine.proofs.Seats.{dated_count}
 
 abbrev pub seat_count : List Term → ℕ
@@ -22,8 +22,8 @@ seats_more d ts i b h e = at_drop_more seat_count ts i d h ∙ count_more (get_o
 pub seats_end : (ts : List Term) (i : ℕ) → length ts ≤ i → seat_count (drop i ts) ≡ 0
 seats_end ts i h = at_drop_all seat_count ts i h
 
-pub odds_more : (d : Term) (f : Form) (ts : List Term) (i : ℕ) (b : Bool) → i < length ts → b ≡ at_odds f (get_or ts i d).form → any_at_odds f (drop i ts) ≡ (b || any_at_odds f (drop (i + 1) ts))
-odds_more d f ts i b h e = at_drop_more (any_at_odds f) ts i d h ∙ ap (λ v. v || any_at_odds f (drop (i + 1) ts)) (sym e)
+pub odds_more : (d : Term) (f : Form) (ts : List Term) (i : ℕ) (b : Bool) → i < length ts → b ≡ counts_differ f (get_or ts i d).form → any_count_differs f (drop i ts) ≡ (b || any_count_differs f (drop (i + 1) ts))
+odds_more d f ts i b h e = at_drop_more (any_count_differs f) ts i d h ∙ ap (λ v. v || any_count_differs f (drop (i + 1) ts)) (sym e)
 
-pub odds_end : (f : Form) (ts : List Term) (i : ℕ) → length ts ≤ i → any_at_odds f (drop i ts) ≡ false
-odds_end f ts i h = at_drop_all (any_at_odds f) ts i h
+pub odds_end : (f : Form) (ts : List Term) (i : ℕ) → length ts ≤ i → any_count_differs f (drop i ts) ≡ false
+odds_end f ts i h = at_drop_all (any_count_differs f) ts i h

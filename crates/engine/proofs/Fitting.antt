@@ -9,11 +9,11 @@ use Rattle.sheet.specs.declared.row.Row.TheVariants.{Span, Same, Unlike}
 use Rattle.sheet.specs.declared.term.Term.{Term}
 use Rattle.sheet.specs.Terms.{well_lettered}
 use Rattle.engine.specs.declared.noted.Noted.{Noted}
-use Rattle.engine.specs.Terms.{is_dated, is_dated_at, seats_of, arguments_below, any_at_odds, zero_term}
-use Rattle.engine.specs.Rows.{left_of, right_of, terms_below, on_dated, spans_level, bound_past_limit}
+use Rattle.engine.specs.Terms.{is_dated, is_dated_at, seats_of, arguments_below, any_count_differs, zero_term}
+use Rattle.engine.specs.Rows.{left_of, right_of, terms_below, on_dated, is_span_on_level, bound_past_limit}
 use Rattle.engine.specs.Refusals.{first_ground, term_refusal, row_refusal}
 use Rattle.engine.specs.Fitting.{is_accepted, is_zero_term, terms_fit, all_terms_fit, row_fits, all_rows_fit}
-use Rattle.engine.specs.Calls.{marked}
+use Rattle.engine.specs.Calls.{rows_with_mark}
 use Rattle.engine.proofs.Seats.{seats_push}
 
 -- where no ground holds, no test does
@@ -41,16 +41,16 @@ pub record TermPasses (ts : List Term) (t : Term) : Type 0 where
   pub room : length ts < 32
   pub seated : is_dated t.kind ≡ true → length (seats_of ts) < 8
   pub earlier : arguments_below (length ts) t.form ≡ true
-  pub agreed : any_at_odds t.form ts ≡ false
+  pub agreed : any_count_differs t.form ts ≡ false
 
 pub term_passes : (ts : List Term) (t : Term) → term_refusal ts t ≡ None → TermPasses ts t
 term_passes ts t e =
     let full : Bool = is_dated t.kind && leb 8 (length (seats_of ts)) in
-    let a = none_holds (not (well_lettered t.form)) MalformedTerm ((leb 32 (length ts), TermsFull) ∷ (full, DatedTermsFull) ∷ (not (arguments_below (length ts) t.form), ArgumentNotEarlier) ∷ (any_at_odds t.form ts, OtherArgumentCount) ∷ []) e in
-    let b = none_holds (leb 32 (length ts)) TermsFull ((full, DatedTermsFull) ∷ (not (arguments_below (length ts) t.form), ArgumentNotEarlier) ∷ (any_at_odds t.form ts, OtherArgumentCount) ∷ []) a.1 in
-    let c = none_holds full DatedTermsFull ((not (arguments_below (length ts) t.form), ArgumentNotEarlier) ∷ (any_at_odds t.form ts, OtherArgumentCount) ∷ []) b.1 in
-    let d = none_holds (not (arguments_below (length ts) t.form)) ArgumentNotEarlier ((any_at_odds t.form ts, OtherArgumentCount) ∷ []) c.1 in
-    let f = none_holds (any_at_odds t.form ts) OtherArgumentCount [] d.1 in
+    let a = none_holds (not (well_lettered t.form)) MalformedTerm ((leb 32 (length ts), TermsFull) ∷ (full, DatedTermsFull) ∷ (not (arguments_below (length ts) t.form), ArgumentNotEarlier) ∷ (any_count_differs t.form ts, OtherArgumentCount) ∷ []) e in
+    let b = none_holds (leb 32 (length ts)) TermsFull ((full, DatedTermsFull) ∷ (not (arguments_below (length ts) t.form), ArgumentNotEarlier) ∷ (any_count_differs t.form ts, OtherArgumentCount) ∷ []) a.1 in
+    let c = none_holds full DatedTermsFull ((not (arguments_below (length ts) t.form), ArgumentNotEarlier) ∷ (any_count_differs t.form ts, OtherArgumentCount) ∷ []) b.1 in
+    let d = none_holds (not (arguments_below (length ts) t.form)) ArgumentNotEarlier ((any_count_differs t.form ts, OtherArgumentCount) ∷ []) c.1 in
+    let f = none_holds (any_count_differs t.form ts) OtherArgumentCount [] d.1 in
     record {
       lettered = not-false (well_lettered t.form) a.0;
       room = leb-false 32 (length ts) b.0;
@@ -76,14 +76,14 @@ pub record RowPasses (ts : List Term) (n : ℕ) (r : Row) : Type 0 where
 
 pub row_passes : (ts : List Term) (n : ℕ) (r : Row) → row_refusal ts n r ≡ None → RowPasses ts n r
 row_passes ts n r e =
-    let a = none_holds (leb 64 n) RowsFull ((not (terms_below (length ts) r), NoSuchTerm) ∷ (spans_level ts r, SpanOnLevel) ∷ (bound_past_limit r, BoundPastLimit) ∷ []) e in
-    let b = none_holds (not (terms_below (length ts) r)) NoSuchTerm ((spans_level ts r, SpanOnLevel) ∷ (bound_past_limit r, BoundPastLimit) ∷ []) a.1 in
-    let c = none_holds (spans_level ts r) SpanOnLevel ((bound_past_limit r, BoundPastLimit) ∷ []) b.1 in
+    let a = none_holds (leb 64 n) RowsFull ((not (terms_below (length ts) r), NoSuchTerm) ∷ (is_span_on_level ts r, SpanOnLevel) ∷ (bound_past_limit r, BoundPastLimit) ∷ []) e in
+    let b = none_holds (not (terms_below (length ts) r)) NoSuchTerm ((is_span_on_level ts r, SpanOnLevel) ∷ (bound_past_limit r, BoundPastLimit) ∷ []) a.1 in
+    let c = none_holds (is_span_on_level ts r) SpanOnLevel ((bound_past_limit r, BoundPastLimit) ∷ []) b.1 in
     let d = none_holds (bound_past_limit r) BoundPastLimit [] c.1 in
     record {
       room = leb-false 64 n a.0;
-      fits = and_from (terms_below (length ts) r) (not (spans_level ts r) && not (bound_past_limit r)) (not-false (terms_below (length ts) r) b.0)
-          (and_from (not (spans_level ts r)) (not (bound_past_limit r)) (not_from_false (spans_level ts r) c.0) (not_from_false (bound_past_limit r) d.0));
+      fits = and_from (terms_below (length ts) r) (not (is_span_on_level ts r) && not (bound_past_limit r)) (not-false (terms_below (length ts) r) b.0)
+          (and_from (not (is_span_on_level ts r)) (not (bound_past_limit r)) (not_from_false (is_span_on_level ts r) c.0) (not_from_false (bound_past_limit r) d.0));
     }
 
 pub rows_push : (ts : List Term) (ms : List Noted) (m : Noted) → all_rows_fit ts ms ≡ true → row_fits ts m.row ≡ true → all_rows_fit ts (ms ++ m ∷ []) ≡ true
@@ -100,13 +100,13 @@ rows_take ts (suc n) (m ∷ ms) f =
     and_from (row_fits ts m.row) (all_rows_fit ts (take n ms)) p.0 (rows_take ts n ms p.1)
 
 -- a mark changes no row
-pub rows_marked : (ts : List Term) (i : ℕ) (b : Bool) (ms : List Noted) → all_rows_fit ts (marked i b ms) ≡ all_rows_fit ts ms
+pub rows_marked : (ts : List Term) (i : ℕ) (b : Bool) (ms : List Noted) → all_rows_fit ts (rows_with_mark i b ms) ≡ all_rows_fit ts ms
 rows_marked ts i b [] = refl
 rows_marked ts zero b (m ∷ ms) = refl
 rows_marked ts (suc i) b (m ∷ ms) = ap (λ v. row_fits ts m.row && v) (rows_marked ts i b ms)
 
 -- a mark that is set by the row read and written back
-pub set_mark : (i : ℕ) (b : Bool) (ms : List Noted) (m : Noted) → m ≡ get_or ms i m → i < length ms → set ms i (record { row = m.row; active = b }) ≡ marked i b ms
+pub set_mark : (i : ℕ) (b : Bool) (ms : List Noted) (m : Noted) → m ≡ get_or ms i m → i < length ms → set ms i (record { row = m.row; active = b }) ≡ rows_with_mark i b ms
 set_mark i b [] m e l = absurd (omega arith)
 set_mark zero b (x ∷ ms) m e l = ap (λ (n : Noted). record { row = n.row; active = b } ∷ ms) e
 set_mark (suc i) b (x ∷ ms) m e l = ap (λ xs. x ∷ xs) (set_mark i b ms m e (omega arith))
@@ -118,21 +118,21 @@ dated_still ts t i l = ap (λ (u : Term). is_dated u.kind) (get_or_append_left t
 on_dated_still : (ts : List Term) (t : Term) (r : Row) → left_of r < length ts → right_of r < length ts → on_dated (ts ++ t ∷ []) r ≡ on_dated ts r
 on_dated_still ts t r i j = ap (λ v. v && is_dated_at (ts ++ t ∷ []) (right_of r)) (dated_still ts t (left_of r) i) ∙ ap (λ v. is_dated_at ts (left_of r) && v) (dated_still ts t (right_of r) j)
 
-span_level_still : (ts : List Term) (t : Term) (r : Row) → left_of r < length ts → right_of r < length ts → spans_level (ts ++ t ∷ []) r ≡ spans_level ts r
+span_level_still : (ts : List Term) (t : Term) (r : Row) → left_of r < length ts → right_of r < length ts → is_span_on_level (ts ++ t ∷ []) r ≡ is_span_on_level ts r
 span_level_still ts t (Span i j c) a b = ap not (on_dated_still ts t (Span i j c) a b)
 span_level_still ts t (Same i j) a b = refl
 span_level_still ts t (Unlike i j) a b = refl
 
 row_still : (ts : List Term) (t : Term) (r : Row) → row_fits ts r ≡ true → row_fits (ts ++ t ∷ []) r ≡ true
 row_still ts t r f =
-    let p = and_parts (terms_below (length ts) r) (not (spans_level ts r) && not (bound_past_limit r)) f in
+    let p = and_parts (terms_below (length ts) r) (not (is_span_on_level ts r) && not (bound_past_limit r)) f in
     let q = and_parts (ltb (left_of r) (length ts)) (ltb (right_of r) (length ts)) p.0 in
     let i = ltb-true (left_of r) (length ts) q.0 in
     let j = ltb-true (right_of r) (length ts) q.1 in
     let n = length-append ts (t ∷ []) in
     let i' : left_of r < length (ts ++ t ∷ []) = omega arith in
     let j' : right_of r < length (ts ++ t ∷ []) = omega arith in
-    and_from (terms_below (length (ts ++ t ∷ [])) r) (not (spans_level (ts ++ t ∷ []) r) && not (bound_past_limit r))
+    and_from (terms_below (length (ts ++ t ∷ [])) r) (not (is_span_on_level (ts ++ t ∷ []) r) && not (bound_past_limit r))
     (and_from (ltb (left_of r) (length (ts ++ t ∷ []))) (ltb (right_of r) (length (ts ++ t ∷ []))) (lt-ltb (left_of r) (length (ts ++ t ∷ [])) i') (lt-ltb (right_of r) (length (ts ++ t ∷ [])) j'))
     (ap (λ v. not v && not (bound_past_limit r)) (span_level_still ts t r i j) ∙ p.1)
 

@@ -5,7 +5,7 @@ use borrow.Rule.Slice.PartMut.{post_of}
 use Rattle.std.proofs.lemmas.List.Elements.{All-head, All-tail, All-map, All-push, All-weaker}
 use Rattle.std.proofs.lemmas.List.{append-nil, take_all, take_more, drop_all, take_at, drop_at, length-map, length-append, length-replicate, length-take-le}
 use Rattle.std.proofs.lemmas.Bool.{cases_lt, cond_both}
-use Rattle.engine.specs.Arrangements.{opens_block, moved, ranks_with, ranks}
+use Rattle.engine.specs.Arrangements.{opens_block, rank_after, ranks_with, ranks}
 use Rattle.engine.proofs.Filling.{fill_next}
 use Rattle.engine.proofs.Ranks.{with_opens, with_joins, length_ranks, ranks_append}
 
@@ -38,15 +38,15 @@ low_item b [] i h = omega arith
 low_item b (r ∷ rs) zero h = All-head (λ x. x ≤ b) r rs h
 low_item b (r ∷ rs) (suc i) h = low_item b rs i (All-tail (λ x. x ≤ b) r rs h)
 
-low_moved : (b k : ℕ) (rs : List ℕ) → Low b rs → Low (b + 1) (map (moved k) rs)
+low_moved : (b k : ℕ) (rs : List ℕ) → Low b rs → Low (b + 1) (map (rank_after k) rs)
 low_moved b k rs h =
-    All-map (λ r. r ≤ b + 1) (moved k) rs
-    (All-weaker (λ r. r ≤ b) (λ r. moved k r ≤ b + 1) (λ r l. cond_both (leb k r) (r + 1) r (λ x. x ≤ b + 1) (λ _. omega arith) (λ _. omega arith)) rs h)
+    All-map (λ r. r ≤ b + 1) (rank_after k) rs
+    (All-weaker (λ r. r ≤ b) (λ r. rank_after k r ≤ b + 1) (λ r l. cond_both (leb k r) (r + 1) r (λ x. x ≤ b + 1) (λ _. omega arith) (λ _. omega arith)) rs h)
 
 low_with : (b : ℕ) (rs : List ℕ) (c : ℕ) → Low b rs → c / 2 ≤ b + 1 → Low (b + 1) (ranks_with rs c)
 low_with b rs c h l =
-    All-push (λ r. r ≤ b + 1) (cond (opens_block c) (map (moved (c / 2)) rs) rs) (c / 2)
-    (cond_both (opens_block c) (map (moved (c / 2)) rs) rs (Low (b + 1)) (λ _. low_moved b (c / 2) rs h) (λ _. All-weaker (λ r. r ≤ b) (λ r. r ≤ b + 1) (λ r m. omega arith) rs h))
+    All-push (λ r. r ≤ b + 1) (cond (opens_block c) (map (rank_after (c / 2)) rs) rs) (c / 2)
+    (cond_both (opens_block c) (map (rank_after (c / 2)) rs) rs (Low (b + 1)) (λ _. low_moved b (c / 2) rs h) (λ _. All-weaker (λ r. r ≤ b) (λ r. r ≤ b + 1) (λ r m. omega arith) rs h))
     l
 
 -- one code more
@@ -73,9 +73,9 @@ module _ (cs : List ℕ) (k : ℕ) (l : k < length cs) (few : k < 8) where
   rest_is xs e = ap (λ n. drop n xs) (sub-zero k) ∙ ap (drop k) e ∙ drop_at (ranks (take k cs)) (replicate (8 - k) 0) k count
 
   -- a seat that opens a block, and one that joins a block
-  pub opened : (xs ys zs : List ℕ) → xs ≡ ranked cs k → get_or cs k 0 % 2 ≡ 0 → ys ≡ map (moved (get_or cs k 0 / 2)) (take (k - 0) xs) → zs ≡ ys ++ post_of 0 (k - 0) xs → set zs k (get_or cs k 0 / 2) ≡ ranked cs (k + 1)
+  pub opened : (xs ys zs : List ℕ) → xs ≡ ranked cs k → get_or cs k 0 % 2 ≡ 0 → ys ≡ map (rank_after (get_or cs k 0 / 2)) (take (k - 0) xs) → zs ≡ ys ++ post_of 0 (k - 0) xs → set zs k (get_or cs k 0 / 2) ≡ ranked cs (k + 1)
   opened xs ys zs e even y z =
-      let f : ℕ → ℕ = moved (get_or cs k 0 / 2) in
+      let f : ℕ → ℕ = rank_after (get_or cs k 0 / 2) in
       let rs : List ℕ = ranks (take k cs) in
       let front : ys ≡ map f rs = y ∙ ap (map f) (front_is xs e) in
       ap (λ us. set us k (get_or cs k 0 / 2)) (z ∙ ap (λ us. us ++ post_of 0 (k - 0) xs) front ∙ ap (λ us. map f rs ++ us) (rest_is xs e))

@@ -2,7 +2,7 @@
 use Rattle.std.proofs.Common.{◌≡◌, ℕ, ◌+◌, ◌-◌, ◌*◌, ◌/◌, ◌%◌, ◌<◌, ◌≤◌, true, cond, leb, ◌⊎◌, List, [], ◌∷◌, ◌++◌, map, length, get_or, sym, refl, ap, ◌∙◌, subst, inl, inr, add-zero, add_assoc, zero-add, arith}
 use Rattle.std.proofs.lemmas.List.{get_or_append_left, get_or-map, get_or_push, length-map, length_push}
 use Rattle.std.proofs.lemmas.Bool.{and_from, and_parts, cases_eq, cases_lt, cases_order, cond-false, cond-true, eq-eqb, le-leb, leb-true, lt-leb, ne_eqb}
-use Rattle.engine.specs.Arrangements.{opens_block, blocks, is_valid, moved, ranks_with, ranks_from, ranks}
+use Rattle.engine.specs.Arrangements.{opens_block, blocks, is_valid, rank_after, ranks_with, ranks_from, ranks}
 
 pub opens_one : (c : ℕ) → c % 2 ≡ 0 → ◌≡◌ {A = ℕ} (cond (opens_block c) 1 0) 1
 opens_one c e = cond-true (opens_block c) 1 0 (eq-eqb (c % 2) 0 e)
@@ -10,22 +10,22 @@ opens_one c e = cond-true (opens_block c) 1 0 (eq-eqb (c % 2) 0 e)
 pub opens_none : (c : ℕ) → c % 2 ≡ 1 → ◌≡◌ {A = ℕ} (cond (opens_block c) 1 0) 0
 opens_none c e = cond-false (opens_block c) 1 0 (ne_eqb (c % 2) 0 (λ z. omega arith))
 
-pub moved_up : (k r : ℕ) → k ≤ r → moved k r ≡ r + 1
+pub moved_up : (k r : ℕ) → k ≤ r → rank_after k r ≡ r + 1
 moved_up k r l = cond-true (leb k r) (r + 1) r (le-leb k r l)
 
-pub moved_not : (k r : ℕ) → r < k → moved k r ≡ r
+pub moved_not : (k r : ℕ) → r < k → rank_after k r ≡ r
 moved_not k r l = cond-false (leb k r) (r + 1) r (lt-leb k r l)
 
-pub with_opens : (rs : List ℕ) (c : ℕ) → c % 2 ≡ 0 → ranks_with rs c ≡ map (moved (c / 2)) rs ++ (c / 2) ∷ []
-with_opens rs c e = ap (λ (ys : List ℕ). ys ++ (c / 2) ∷ []) (cond-true (opens_block c) (map (moved (c / 2)) rs) rs (eq-eqb (c % 2) 0 e))
+pub with_opens : (rs : List ℕ) (c : ℕ) → c % 2 ≡ 0 → ranks_with rs c ≡ map (rank_after (c / 2)) rs ++ (c / 2) ∷ []
+with_opens rs c e = ap (λ (ys : List ℕ). ys ++ (c / 2) ∷ []) (cond-true (opens_block c) (map (rank_after (c / 2)) rs) rs (eq-eqb (c % 2) 0 e))
 
 pub with_joins : (rs : List ℕ) (c : ℕ) → (c % 2 ≡ 0 → ⊥) → ranks_with rs c ≡ rs ++ (c / 2) ∷ []
-with_joins rs c e = ap (λ (ys : List ℕ). ys ++ (c / 2) ∷ []) (cond-false (opens_block c) (map (moved (c / 2)) rs) rs (ne_eqb (c % 2) 0 e))
+with_joins rs c e = ap (λ (ys : List ℕ). ys ++ (c / 2) ∷ []) (cond-false (opens_block c) (map (rank_after (c / 2)) rs) rs (ne_eqb (c % 2) 0 e))
 
 pub length_with : (rs : List ℕ) (c : ℕ) → length (ranks_with rs c) ≡ length rs + 1
 length_with rs c =
     elim (cases_eq (c % 2) 0) [
-      | inl e ↦ ap length (with_opens rs c e) ∙ (length_push (map (moved (c / 2)) rs) (c / 2) ∙ ap (λ (n : ℕ). n + 1) (length-map rs (moved (c / 2))))
+      | inl e ↦ ap length (with_opens rs c e) ∙ (length_push (map (rank_after (c / 2)) rs) (c / 2) ∙ ap (λ (n : ℕ). n + 1) (length-map rs (rank_after (c / 2))))
       | inr e ↦ ap length (with_joins rs c e) ∙ length_push rs (c / 2)
     ]
 
@@ -52,8 +52,8 @@ rank_becomes rs c p h =
       | inl e ↦
           let k : ℕ = c / 2 in
           let r : ℕ = get_or rs p 0 in
-          let l = length-map rs (moved k) in
-          let is : get_or (ranks_with rs c) p 0 ≡ moved k r = ap (λ (ys : List ℕ). get_or ys p 0) (with_opens rs c e) ∙ (get_or_append_left (map (moved k) rs) (k ∷ []) 0 p (omega arith) ∙ get_or-map (moved k) rs p 0 0 h) in
+          let l = length-map rs (rank_after k) in
+          let is : get_or (ranks_with rs c) p 0 ≡ rank_after k r = ap (λ (ys : List ℕ). get_or ys p 0) (with_opens rs c e) ∙ (get_or_append_left (map (rank_after k) rs) (k ∷ []) 0 p (omega arith) ∙ get_or-map (rank_after k) rs p 0 0 h) in
           elim (cases_lt r k) [ inl l ↦ kept e l (is ∙ moved_not k r l) | inr l ↦ up e l (is ∙ moved_up k r l) ]
       | inr e ↦ joined (omega arith) (ap (λ (ys : List ℕ). get_or ys p 0) (with_joins rs c e) ∙ get_or_append_left rs ((c / 2) ∷ []) 0 p h)
     ]
@@ -61,7 +61,7 @@ rank_becomes rs c p h =
 pub new_rank : (rs : List ℕ) (c : ℕ) → get_or (ranks_with rs c) (length rs) 0 ≡ c / 2
 new_rank rs c =
     elim (cases_eq (c % 2) 0) [
-      | inl e ↦ ap (λ (ys : List ℕ). get_or ys (length rs) 0) (with_opens rs c e) ∙ get_or_push (map (moved (c / 2)) rs) (c / 2) 0 (length rs) (length-map rs (moved (c / 2)))
+      | inl e ↦ ap (λ (ys : List ℕ). get_or ys (length rs) 0) (with_opens rs c e) ∙ get_or_push (map (rank_after (c / 2)) rs) (c / 2) 0 (length rs) (length-map rs (rank_after (c / 2)))
       | inr e ↦ ap (λ (ys : List ℕ). get_or ys (length rs) 0) (with_joins rs c e) ∙ get_or_push rs (c / 2) 0 (length rs) refl
     ]
 

@@ -22,12 +22,12 @@ pub record Arrangement (n : ℕ) (codes : List ℕ) : Type 0 where
   pub valid : is_valid 0 codes ≡ true
 
 -- the rank of a seat is its block, counted from 0: a block that is opened at k moves those from k on
-abbrev pub moved : ℕ → ℕ → ℕ
-moved k r = if nat_le k r then r + 1 else r
+abbrev pub rank_after : ℕ → ℕ → ℕ
+rank_after k r = if nat_le k r then r + 1 else r
 
 -- the ranks once a seat more is placed by the code c
 abbrev pub ranks_with : List ℕ → ℕ → List ℕ
-ranks_with rs c = (if opens_block c then map (moved (c / 2)) rs else rs) ++ (c / 2) ∷ []
+ranks_with rs c = (if opens_block c then map (rank_after (c / 2)) rs else rs) ++ (c / 2) ∷ []
 
 abbrev pub ranks_from : List ℕ → List ℕ → List ℕ
 ranks_from rs [] = rs

@@ -48,14 +48,14 @@ abbrev pub on_strike : State → Outcome
 on_strike s = attempt s (strike_refusal (length s.rows) or_else codes_refusal s) (with_rows s (without_last s.rows))
 
 -- the rows with row i made active, or muted
-abbrev pub marked : ℕ → Bool → List Noted → List Noted
-marked i b [] = []
-marked zero b (m ∷ ms) = record { row = m.row; active = b } ∷ ms
-marked (suc i) b (m ∷ ms) = m ∷ marked i b ms
+abbrev pub rows_with_mark : ℕ → Bool → List Noted → List Noted
+rows_with_mark i b [] = []
+rows_with_mark zero b (m ∷ ms) = record { row = m.row; active = b } ∷ ms
+rows_with_mark (suc i) b (m ∷ ms) = m ∷ rows_with_mark i b ms
 
 -- mute and unmute change the mark of one row, and may repeat
 abbrev pub on_mark : State → ℕ → Bool → Outcome
-on_mark s i b = attempt s (first_ground ((nat_le (length s.rows) i, NoSuchRow) ∷ []) or_else codes_refusal s) (with_rows s (marked i b s.rows))
+on_mark s i b = attempt s (first_ground ((nat_le (length s.rows) i, NoSuchRow) ∷ []) or_else codes_refusal s) (with_rows s (rows_with_mark i b s.rows))
 
 -- place adds a code
 abbrev pub on_place : State → ℕ → Outcome

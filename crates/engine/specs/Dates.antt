@@ -5,13 +5,13 @@ use Rattle.sheet.specs.declared.fault.Fault.{Fault}
 use Rattle.sheet.specs.declared.row.Row.{Row}
 use Rattle.sheet.specs.declared.term.Term.{Term}
 use Rattle.sheet.specs.Causes.{fault_in}
-use Rattle.engine.specs.Limits.{date_limit}
+use Rattle.engine.specs.Limits.{max_seats, date_limit}
 use Rattle.engine.specs.Terms.{seats_of}
 use Rattle.engine.specs.Rows.{RowKind, kind_of, on_dated}
 use Rattle.engine.specs.Meaning.{Numbers, Holds}
 use Rattle.engine.specs.Arrangements.{ranks, InOrder}
 use Rattle.engine.specs.Rules.{seat_numbers, SpanFits}
-use Rattle.engine.specs.States.{State, active, Completion}
+use Rattle.engine.specs.States.{State, active_rows, Completion}
 
 -- the number of term i is the date of its seat; 0 where it has none
 abbrev pub date_at : List ℕ → List ℤ → Numbers
@@ -29,18 +29,18 @@ pub record RightDates (counts : RowKind → Bool) (s : State) (dates : List ℤ)
   pub within : (p : ℕ) → p < length dates → (neg_ℤ date_limit ≤ℤ slice_index_or dates p (pos 0)) × (slice_index_or dates p (pos 0) ≤ℤ date_limit)
   pub zero_first : slice_index_or dates 0 (pos 0) ≡ pos 0
   pub ordered : InOrder (ranks s.codes) (λ p. slice_index_or dates p (pos 0))
-  pub hold : All (CountedHolds counts s.terms dates) (active s.rows)
+  pub hold : All (CountedHolds counts s.terms dates) (active_rows s.rows)
 
 module _ (rule : List Term → List Row → List ℕ → Type 0) (s : State) where
-  -- every seat is placed and open says yes: the answer has the dates first, and 0 at each place that is left of 8.
+  -- every seat is placed and open says yes: the answer has the dates first, and 0 at each place that is left of the 8.
   -- `picks` says which dates the engine gives
   pub record Dated (counts : RowKind → Bool) (picks : List Term → List Row → List ℕ → List ℤ → Type 0) (answer : List ℤ) : Type 0 where
     pub placed : length s.codes ≡ length (seats_of s.terms)
     pub allowed : Completion rule s
     pub dates : List ℤ
-    pub answered : answer ≡ dates ++ replicate (8 - length dates) (pos 0)
+    pub answered : answer ≡ dates ++ replicate (max_seats - length dates) (pos 0)
     pub right : RightDates counts s dates
-    pub picked : picks s.terms (active s.rows) s.codes dates
+    pub picked : picks s.terms (active_rows s.rows) s.codes dates
 
   -- otherwise the call is refused
   pub record Undated (letter : ℕ) (fault : Fault) : Type 0 where

@@ -7,7 +7,7 @@ use Rattle.sheet.specs.declared.term.Form.TheVariants.{Name, One, Two}
 use Rattle.sheet.specs.declared.term.Term.{Term}
 use Rattle.engine.specs.declared.noted.Noted.{Noted}
 use Rattle.engine.specs.Terms.{is_dated}
-use Rattle.engine.specs.Rows.{terms_below, spans_level, bound_past_limit}
+use Rattle.engine.specs.Rows.{terms_below, is_span_on_level, bound_past_limit}
 use Rattle.engine.specs.Refusals.{term_refusal}
 
 abbrev pub is_name : Form → Bool
@@ -34,7 +34,7 @@ all_terms_fit (t ∷ ts) = is_zero_term t && terms_fit (t ∷ []) ts
 
 -- the row names terms that are there, a span names dated ones, and its bound is within the limits
 abbrev pub row_fits : List Term → Row → Bool
-row_fits ts r = terms_below (length ts) r && (not (spans_level ts r) && not (bound_past_limit r))
+row_fits ts r = terms_below (length ts) r && (not (is_span_on_level ts r) && not (bound_past_limit r))
 
 abbrev pub all_rows_fit : List Term → List Noted → Bool
 all_rows_fit ts [] = true

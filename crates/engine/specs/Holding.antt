@@ -3,5 +3,5 @@ use Rattle.std.specs.Prelude.{vec_items}
 use Rattle.engine.specs.declared.holdings.Holdings.{Holdings}
 use Rattle.engine.specs.States.{State}
 
-abbrev pub held : Holdings → State
-held h = record { terms = vec_items h.terms; rows = vec_items h.rows; codes = vec_items h.codes }
+abbrev pub state_of : Holdings → State
+state_of h = record { terms = vec_items h.terms; rows = vec_items h.rows; codes = vec_items h.codes }

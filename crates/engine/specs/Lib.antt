@@ -10,3 +10,4 @@ pub mod Calls
 pub mod Dates
 pub mod Fitting
 pub mod Holding
+pub mod Letters

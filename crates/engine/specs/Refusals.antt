@@ -8,8 +8,9 @@ use Rattle.sheet.specs.declared.row.Row.{Row}
 use Rattle.sheet.specs.declared.term.Term.{Term}
 use Rattle.sheet.specs.Causes.{fault_in}
 use Rattle.sheet.specs.Terms.{well_lettered}
-use Rattle.engine.specs.Terms.{is_dated, seats_of, arguments_below, any_at_odds}
-use Rattle.engine.specs.Rows.{terms_below, spans_level, bound_past_limit}
+use Rattle.engine.specs.Limits.{max_terms, max_seats, max_rows}
+use Rattle.engine.specs.Terms.{is_dated, seats_of, arguments_below, any_count_differs}
+use Rattle.engine.specs.Rows.{terms_below, is_span_on_level, bound_past_limit}
 
 -- the cause of the first test that holds
 abbrev pub first_ground : List (Bool × Cause) → Option Cause
@@ -20,18 +21,18 @@ first_ground (g ∷ gs) = if g.0 then Some g.1 else first_ground gs
 abbrev pub term_refusal : List Term → Term → Option Cause
 term_refusal ts t = first_ground (
     (not (well_lettered t.form), MalformedTerm)
-    ∷ (nat_le 32 (length ts), TermsFull)
-    ∷ (is_dated t.kind && nat_le 8 (length (seats_of ts)), DatedTermsFull)
+    ∷ (nat_le max_terms (length ts), TermsFull)
+    ∷ (is_dated t.kind && nat_le max_seats (length (seats_of ts)), DatedTermsFull)
     ∷ (not (arguments_below (length ts) t.form), ArgumentNotEarlier)
-    ∷ (any_at_odds t.form ts, OtherArgumentCount)
+    ∷ (any_count_differs t.form ts, OtherArgumentCount)
     ∷ [])
 
 -- why a row cannot follow n rows over the terms ts: for entering a row, and for noting one
 abbrev pub row_refusal : List Term → ℕ → Row → Option Cause
 row_refusal ts n r = first_ground (
-    (nat_le 64 n, RowsFull)
+    (nat_le max_rows n, RowsFull)
     ∷ (not (terms_below (length ts) r), NoSuchTerm)
-    ∷ (spans_level ts r, SpanOnLevel)
+    ∷ (is_span_on_level ts r, SpanOnLevel)
     ∷ (bound_past_limit r, BoundPastLimit)
     ∷ [])
 

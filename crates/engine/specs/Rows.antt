@@ -35,10 +35,10 @@ abbrev pub on_dated : List Term → Row → Bool
 on_dated ts r = is_dated_at ts (left_of r) && is_dated_at ts (right_of r)
 
 -- a span names a level
-abbrev pub spans_level : List Term → Row → Bool
-spans_level ts (Span i j c) = not (on_dated ts (Span i j c))
-spans_level ts (Same i j) = false
-spans_level ts (Unlike i j) = false
+abbrev pub is_span_on_level : List Term → Row → Bool
+is_span_on_level ts (Span i j c) = not (on_dated ts (Span i j c))
+is_span_on_level ts (Same i j) = false
+is_span_on_level ts (Unlike i j) = false
 
 -- a span whose bound does not lie between −1,000,000 and 1,000,000
 abbrev pub bound_past_limit : Row → Bool

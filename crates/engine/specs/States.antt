@@ -30,12 +30,12 @@ abbrev pub with_code : State → ℕ → State
 with_code s c = with_codes s (s.codes ++ c ∷ [])
 
 -- the rows that are not muted, in order
-abbrev pub active : List Noted → List Row
-active [] = []
-active (m ∷ ms) = if m.active then m.row ∷ active ms else active ms
+abbrev pub active_rows : List Noted → List Row
+active_rows [] = []
+active_rows (m ∷ ms) = if m.active then m.row ∷ active_rows ms else active_rows ms
 
 -- an arrangement that begins with the codes placed, and that the rule allows for the active rows
 pub record Completion (rule : List Term → List Row → List ℕ → Type 0) (s : State) : Type 0 where
   pub rest : List ℕ
   pub full : Arrangement (length (seats_of s.terms)) (s.codes ++ rest)
-  pub allowed : rule s.terms (active s.rows) (s.codes ++ rest)
+  pub allowed : rule s.terms (active_rows s.rows) (s.codes ++ rest)

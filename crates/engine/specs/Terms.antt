@@ -34,15 +34,15 @@ arguments_below n (One a x) = nat_lt x n
 arguments_below n (Two a x y) = nat_lt x n && nat_lt y n
 
 -- the two apply one table to different counts of arguments
-abbrev pub at_odds : Form → Form → Bool
-at_odds Name g = false
-at_odds (One a x) Name = false
-at_odds (One a x) (One b y) = false
-at_odds (One a x) (Two b y z) = a == b
-at_odds (Two a x y) Name = false
-at_odds (Two a x y) (One b z) = a == b
-at_odds (Two a x y) (Two b z w) = false
+abbrev pub counts_differ : Form → Form → Bool
+counts_differ Name g = false
+counts_differ (One a x) Name = false
+counts_differ (One a x) (One b y) = false
+counts_differ (One a x) (Two b y z) = a == b
+counts_differ (Two a x y) Name = false
+counts_differ (Two a x y) (One b z) = a == b
+counts_differ (Two a x y) (Two b z w) = false
 
-abbrev pub any_at_odds : Form → List Term → Bool
-any_at_odds f [] = false
-any_at_odds f (t ∷ ts) = at_odds f t.form || any_at_odds f ts
+abbrev pub any_count_differs : Form → List Term → Bool
+any_count_differs f [] = false
+any_count_differs f (t ∷ ts) = counts_differ f t.form || any_count_differs f ts

@@ -1,6 +1,6 @@
 // Codes and ranks. docs/MEANING.md says what an arrangement and its codes are.
 ghost use Rattle.std.specs.Prelude.{◌≡◌, ℕ, ◌-◌, ◌<◌, ◌≤◌, ◌++◌, map, length, take, replicate, slice_index};
-ghost use Rattle.engine.specs.Arrangements.{EveryChoiceIsFollowed, blocks, moved, ranks};
+ghost use Rattle.engine.specs.Arrangements.{EveryChoiceIsFollowed, blocks, rank_after, ranks};
 
 // How many blocks the codes open.
 pub(crate) fn count_blocks(codes: &[u8]) -> usize
@@ -19,7 +19,7 @@ pub(crate) fn count_blocks(codes: &[u8]) -> usize
 // Opens a block at `block`: the seats of the blocks from there on move up by one.
 fn open_block(ranks: &mut [u8], block: u8)
     requires { (k : ℕ) → k < length ranks.old → slice_index ranks.old k < 255 }
-    ensures { ranks.new ≡ map (moved block) ranks.old }
+    ensures { ranks.new ≡ map (rank_after block) ranks.old }
 {
     for rank in ranks.iter_mut() {
         if *rank >= block {

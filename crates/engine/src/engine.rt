@@ -1,6 +1,7 @@
 // The engine interface.
 ghost use Rattle.std.specs.Prelude.{◌≡◌, ℕ, ◌↔◌, IsTrue, true, false, List, ◌∷◌, ◌++◌};
 ghost use Rattle.engine.specs.Calls.{on_lift, on_mark, on_note_row, on_note_term, on_place, on_strike};
+ghost use Rattle.engine.specs.Letters.{is_engine_letter};
 ghost use Rattle.engine.specs.Refusals.{answer_in};
 ghost use Rattle.engine.specs.States.{Completion, State, new_state};
 ghost use Rattle.sheet.specs.declared.row.Row.{Row};
@@ -77,6 +78,9 @@ pub trait Engine {
     // Whether some allowed arrangement begins with the codes placed.
     fn open(&self) -> bool
         ensures { IsTrue result ↔ Completion (rule (setting self.now)) (state self.now) };
+
+    // the letter is none of another layer
+    ghost own_letter: { IsTrue (is_engine_letter LETTER) };
 
     // what is allowed stays allowed when an active row is left out
     ghost fewer: { (n : ℕ) (ts : List Term) (front back : List Row) (r : Row) (codes : List ℕ) → rule n ts (front ++ r ∷ back) codes → rule n ts (front ++ back) codes };

@@ -3,6 +3,7 @@ ghost use Rattle.std.specs.Prelude.{◌≡◌, ℕ, ◌<◌, ◌≤◌, true, []
 ghost use Rattle.engine.specs.Arrangements.{is_valid};
 ghost use Rattle.engine.specs.Calls.{on_lift, on_mark, on_note_row, on_note_term, on_place, on_strike, without_last};
 ghost use Rattle.engine.specs.Fitting.{all_rows_fit, all_terms_fit};
+ghost use Rattle.engine.specs.Limits.{max_rows, max_seats, max_terms};
 ghost use Rattle.engine.specs.Refusals.{answer_in};
 ghost use Rattle.engine.specs.States.{new_state};
 ghost use Rattle.engine.specs.Terms.{is_dated, seats_of};
@@ -26,13 +27,13 @@ pub struct Holdings {
     pub(crate) seats: Vec<u8>,
     pub(crate) rows: Vec<Noted>,
     pub(crate) codes: Vec<u8>,
-    ghost term_room: { 32 ≤ vec_capacity terms },
-    ghost seat_room: { 8 ≤ vec_capacity seats },
-    ghost row_room: { 64 ≤ vec_capacity rows },
-    ghost code_room: { 8 ≤ vec_capacity codes },
-    ghost few_terms: { vec_len terms ≤ 32 },
-    ghost few_seats: { vec_len seats ≤ 8 },
-    ghost few_rows: { vec_len rows ≤ 64 },
+    ghost term_room: { max_terms ≤ vec_capacity terms },
+    ghost seat_room: { max_seats ≤ vec_capacity seats },
+    ghost row_room: { max_rows ≤ vec_capacity rows },
+    ghost code_room: { max_seats ≤ vec_capacity codes },
+    ghost few_terms: { vec_len terms ≤ max_terms },
+    ghost few_seats: { vec_len seats ≤ max_seats },
+    ghost few_rows: { vec_len rows ≤ max_rows },
     ghost terms_fit: { all_terms_fit terms.items ≡ true },
     ghost seats_listed: { seats.items ≡ seats_of terms.items },
     ghost rows_fit: { all_rows_fit terms.items rows.items ≡ true },
@@ -41,11 +42,11 @@ pub struct Holdings {
 }
 
 impl Holdings {
-    ghost use Rattle.engine.specs.Holding.{held};
+    ghost use Rattle.engine.specs.Holding.{state_of};
 
     // Zero, no row and no code.
     pub fn new(heap: Global) -> Result<Holdings, AllocError>
-        ensures { IfOk result (λ h. held h ≡ new_state) }
+        ensures { IfOk result (λ h. state_of h ≡ new_state) }
     {
         let mut terms = Vec::with_capacity(heap, MAX_TERMS)?;
         let mut seats = Vec::with_capacity(heap, MAX_SEATS)?;
@@ -63,25 +64,25 @@ impl Holdings {
 
     // The indices of the dated terms.
     pub fn seats(&self) -> &[u8]
-        ensures { result.now ≡ seats_of (held self.now).terms }
+        ensures { result.now ≡ seats_of (state_of self.now).terms }
     {
         self.seats.as_slice()
     }
 
     pub fn rows(&self) -> &[Noted]
-        ensures { result.now ≡ (held self.now).rows }
+        ensures { result.now ≡ (state_of self.now).rows }
     {
         self.rows.as_slice()
     }
 
     pub fn codes(&self) -> &[u8]
-        ensures { result.now ≡ (held self.now).codes }
+        ensures { result.now ≡ (state_of self.now).codes }
     {
         self.codes.as_slice()
     }
 
     pub fn renew(&mut self)
-        ensures { held self.new ≡ new_state }
+        ensures { state_of self.new ≡ new_state }
     {
         self.codes.clear();
         self.rows.clear();
@@ -93,8 +94,8 @@ impl Holdings {
 
     // Each call that may refuse is told the letter of the engine that makes it, for its fault.
     pub fn note_term(&mut self, term: Term, letter: char) -> Result<(), Fault>
-        ensures answers { result ≡ answer_in letter (on_note_term (held self.old) term).refusal }
-        ensures leaves { held self.new ≡ (on_note_term (held self.old) term).next }
+        ensures answers { result ≡ answer_in letter (on_note_term (state_of self.old) term).refusal }
+        ensures leaves { state_of self.new ≡ (on_note_term (state_of self.old) term).next }
     {
         if let Some(cause) = term_refusal(&self.terms, term) {
             return Err(cause.in_layer(letter));
@@ -108,8 +109,8 @@ impl Holdings {
     }
 
     pub fn note_row(&mut self, row: Row, letter: char) -> Result<(), Fault>
-        ensures answers { result ≡ answer_in letter (on_note_row (held self.old) row).refusal }
-        ensures leaves { held self.new ≡ (on_note_row (held self.old) row).next }
+        ensures answers { result ≡ answer_in letter (on_note_row (state_of self.old) row).refusal }
+        ensures leaves { state_of self.new ≡ (on_note_row (state_of self.old) row).next }
     {
         if let Some(cause) = row_refusal(&self.terms, self.rows.len(), row) {
             return Err(cause.in_layer(letter));
@@ -122,8 +123,8 @@ impl Holdings {
     }
 
     pub fn strike(&mut self, letter: char) -> Result<(), Fault>
-        ensures answers { result ≡ answer_in letter (on_strike (held self.old)).refusal }
-        ensures leaves { held self.new ≡ (on_strike (held self.old)).next }
+        ensures answers { result ≡ answer_in letter (on_strike (state_of self.old)).refusal }
+        ensures leaves { state_of self.new ≡ (on_strike (state_of self.old)).next }
     {
         if self.rows.is_empty() {
             return Err(Cause::NoRowToStrike.in_layer(letter));
@@ -137,8 +138,8 @@ impl Holdings {
 
     // Makes row i active, or mutes it.
     pub fn mark(&mut self, i: u8, active: bool, letter: char) -> Result<(), Fault>
-        ensures answers { result ≡ answer_in letter (on_mark (held self.old) i active).refusal }
-        ensures leaves { held self.new ≡ (on_mark (held self.old) i active).next }
+        ensures answers { result ≡ answer_in letter (on_mark (state_of self.old) i active).refusal }
+        ensures leaves { state_of self.new ≡ (on_mark (state_of self.old) i active).next }
     {
         if i as usize >= self.rows.len() {
             return Err(Cause::NoSuchRow.in_layer(letter));
@@ -151,8 +152,8 @@ impl Holdings {
     }
 
     pub fn place(&mut self, code: u8, letter: char) -> Result<(), Fault>
-        ensures answers { result ≡ answer_in letter (on_place (held self.old) code).refusal }
-        ensures leaves { held self.new ≡ (on_place (held self.old) code).next }
+        ensures answers { result ≡ answer_in letter (on_place (state_of self.old) code).refusal }
+        ensures leaves { state_of self.new ≡ (on_place (state_of self.old) code).next }
     {
         if self.codes.len() >= self.seats.len() {
             return Err(Cause::EverySeatPlaced.in_layer(letter));
@@ -165,8 +166,8 @@ impl Holdings {
     }
 
     pub fn lift(&mut self, letter: char) -> Result<(), Fault>
-        ensures answers { result ≡ answer_in letter (on_lift (held self.old)).refusal }
-        ensures leaves { held self.new ≡ (on_lift (held self.old)).next }
+        ensures answers { result ≡ answer_in letter (on_lift (state_of self.old)).refusal }
+        ensures leaves { state_of self.new ≡ (on_lift (state_of self.old)).next }
     {
         if self.codes.is_empty() {
             return Err(Cause::NoCodeToLift.in_layer(letter));

@@ -3,8 +3,8 @@ ghost use Rattle.std.specs.Prelude.{◌≡◌, ℕ};
 ghost use Rattle.engine.specs.Refusals.{row_refusal, term_refusal};
 
 use crate::limits::{MAX_ROWS, MAX_SEATS, MAX_TERMS};
-use crate::rows::{has_terms_below, is_bound_past_limit, spans_level};
-use crate::terms::{count_seats, has_arguments_below, is_at_odds_with_any, is_dated};
+use crate::rows::{has_terms_below, is_bound_past_limit, is_span_on_level};
+use crate::terms::{any_count_differs, count_seats, has_arguments_below, is_dated};
 use sheet::fault::Cause;
 use sheet::row::Row;
 use sheet::term::Term;
@@ -25,7 +25,7 @@ pub fn term_refusal(terms: &[Term], term: Term) -> Option<Cause>
     if !has_arguments_below(term.form, terms.len()) {
         return Some(Cause::ArgumentNotEarlier);
     }
-    if is_at_odds_with_any(term.form, terms) {
+    if any_count_differs(term.form, terms) {
         return Some(Cause::OtherArgumentCount);
     }
     None
@@ -41,7 +41,7 @@ pub fn row_refusal(terms: &[Term], count: usize, row: Row) -> Option<Cause>
     if !has_terms_below(row, terms.len()) {
         return Some(Cause::NoSuchTerm);
     }
-    if spans_level(row, terms) {
+    if is_span_on_level(row, terms) {
         return Some(Cause::SpanOnLevel);
     }
     if is_bound_past_limit(row) {

@@ -1,6 +1,6 @@
 // What is asked of rows: the terms that they name, and the limits of a bound.
 ghost use Rattle.std.specs.Prelude.{◌≡◌, ℕ};
-ghost use Rattle.engine.specs.Rows.{bound_past_limit, spans_level, terms_below};
+ghost use Rattle.engine.specs.Rows.{bound_past_limit, is_span_on_level, terms_below};
 
 use crate::limits::MAX_BOUND;
 use crate::terms::is_dated_at;
@@ -18,8 +18,8 @@ pub(crate) fn has_terms_below(row: Row, n: usize) -> bool
 }
 
 // Whether the row is a span with a level in it.
-pub(crate) fn spans_level(row: Row, terms: &[Term]) -> bool
-    ensures { result ≡ spans_level terms.now row }
+pub(crate) fn is_span_on_level(row: Row, terms: &[Term]) -> bool
+    ensures { result ≡ is_span_on_level terms.now row }
 {
     match row {
         Row::Span { left, right, .. } => !(is_dated_at(terms, left) && is_dated_at(terms, right)),

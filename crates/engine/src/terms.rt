@@ -1,6 +1,6 @@
 // What is asked of terms: which are dated, and what an application asks of the terms before it.
 ghost use Rattle.std.specs.Prelude.{◌≡◌, ℕ, ◌≤◌, length};
-ghost use Rattle.engine.specs.Terms.{is_dated, is_dated_at, seats_of, arguments_below, at_odds, any_at_odds};
+ghost use Rattle.engine.specs.Terms.{is_dated, is_dated_at, seats_of, arguments_below, counts_differ, any_count_differs};
 
 use sheet::term::{Form, Kind, Term};
 
@@ -55,8 +55,8 @@ pub(crate) fn has_arguments_below(form: Form, n: usize) -> bool
 }
 
 // Whether the two apply one table to different counts of arguments.
-pub(crate) fn are_at_odds(form: Form, other: Form) -> bool
-    ensures { result ≡ at_odds form other }
+pub(crate) fn counts_differ(form: Form, other: Form) -> bool
+    ensures { result ≡ counts_differ form other }
 {
     match (form, other) {
         (Form::One { table: a, .. }, Form::Two { table: b, .. }) => a == b,
@@ -66,11 +66,11 @@ pub(crate) fn are_at_odds(form: Form, other: Form) -> bool
 }
 
 // Whether some term applies the form's table to another count of arguments.
-pub(crate) fn is_at_odds_with_any(form: Form, terms: &[Term]) -> bool
-    ensures { result ≡ any_at_odds form terms.now }
+pub(crate) fn any_count_differs(form: Form, terms: &[Term]) -> bool
+    ensures { result ≡ any_count_differs form terms.now }
 {
     for term in terms {
-        if are_at_odds(form, term.form) {
+        if counts_differ(form, term.form) {
             return true;
         }
     }

@@ -5,7 +5,7 @@ use Rattle.std.proofs.lemmas.Int.{ints}
 use Rattle.std.proofs.lemmas.List.Elements.{All-contains, All-contains_itself}
 use Rattle.graph.specs.declared.Edge.{Edge}
 use Rattle.graph.specs.Graph.{Within, EdgeHolds, Feasible, Walk, total, NegativeCycle, at, through, relaxed, round, rounds, zeros, is_stable}
-use Rattle.graph.specs.Claims.{after, Below, LowSolution, Greatest, Among, ExactAmong, BoundedAmong}
+use Rattle.graph.specs.Claims.{after, AtMost, LowSolution, GreatestSolution, Among, ExactAmong, BoundedAmong}
 use Rattle.graph.proofs.Relaxing.{relaxed_at, relaxed_le, relaxed_length, round_length, round_le, round_ends, rounds_keep, zeros_at, zeros_length, stable_solution, unstable_edge}
 use Rattle.graph.proofs.Walks.{Simple, simplify, simple_short, cycle_refutes, walk_weight}
 
@@ -16,13 +16,13 @@ module _ (n : ℕ) (es : List Edge) (within : Within n es) where
   from_in : (e : Edge) → Contains es e → e.from < n
   from_in e h = (All-contains (λ e. (e.to < n) × (e.from < n)) es e within h).1
 
-  below : (k : ℕ) (x : ℕ → ℤ) → LowSolution n es x → Below n x (at (after n k es))
-  below k x s = (rounds_keep (λ d. (length d ≡ n) × Below n x (at d)) es step k (zeros n) (zeros_length n, λ v i. subst (λ (y : ℤ). x v ≤ℤ y) (sym (zeros_at n v)) (s.1 v i))).1
+  below : (k : ℕ) (x : ℕ → ℤ) → LowSolution n es x → AtMost n x (at (after n k es))
+  below k x s = (rounds_keep (λ d. (length d ≡ n) × AtMost n x (at d)) es step k (zeros n) (zeros_length n, λ v i. subst (λ (y : ℤ). x v ≤ℤ y) (sym (zeros_at n v)) (s.1 v i))).1
     where
-      step : (e : Edge) → Contains es e → (d : List ℤ) → (length d ≡ n) × Below n x (at d) → (length (relaxed e d) ≡ n) × Below n x (at (relaxed e d))
+      step : (e : Edge) → Contains es e → (d : List ℤ) → (length d ≡ n) × AtMost n x (at d) → (length (relaxed e d) ≡ n) × AtMost n x (at (relaxed e d))
       step e h d q = (relaxed_length e d ∙ q.0, under)
         where
-          under : Below n x (at (relaxed e d))
+          under : AtMost n x (at (relaxed e d))
           under v i = elim (relaxed_at e d v (omega (arith, q.0, to_in e h))) [
             | inl r ↦ (let a : x v ≡ x e.to = ap x r.0 in let b : x e.to ≤ℤ (x e.from +ℤ e.weight) = All-contains (EdgeHolds x) es e s.0 h in let c : x e.from ≤ℤ at d e.from = q.1 e.from (from_in e h) in let g : at (relaxed e d) v ≡ through e d = r.2 in omega (arith, ints))
             | inr r ↦ (let c : x v ≤ℤ at d v = q.1 v i in let g : at (relaxed e d) v ≡ at d v = r.0 in omega (arith, ints))
@@ -97,7 +97,7 @@ module _ (n : ℕ) (es : List Edge) (within : Within n es) where
                     let c : total s.0 ≤ℤ total (e ∷ p) = s.3 in
                     omega (arith, ints))
 
-pub greatest : Greatest
+pub greatest : GreatestSolution
 greatest n k es within h = ((stable_solution es (after n k es) h, λ v i. never_above n es within k v), below n es within k)
 
 so_true : (b : Bool) → (b ≡ false → ⊥) → b ≡ true

@@ -6,7 +6,7 @@ use Rattle.std.proofs.lemmas.Int.{ints}
 use Rattle.std.proofs.lemmas.List.Elements.{All-nil, All-cons, All-head, All-tail, All-weaker, All-contains_itself}
 use Rattle.graph.specs.declared.Edge.{Edge}
 use Rattle.graph.specs.Graph.{Within, EdgeHolds, Solution, at, through, lowers, relaxed, round, rounds, zeros, is_stable}
-use Rattle.graph.specs.Claims.{Early}
+use Rattle.graph.specs.Claims.{StableStays}
 
 -- a write changes one vertex
 at_set : (d : List ℤ) (t v : ℕ) (x : ℤ) → t < length d → ((v ≡ t) × (at (set d t x) v ≡ x)) ⊎ ((v ≢ t) × (at (set d t x) v ≡ at d v))
@@ -122,6 +122,6 @@ stable_round (e ∷ es) d h =
     let b : lowers e d ≡ false = q.0 in
     rw b (stable_round es d q.1)
 
-pub early : Early
+pub early : StableStays
 early zero es d h = refl
 early (suc k) es d h = ap (λ (r : List ℤ). rounds k es r) (stable_round es d h) ∙ early k es d h

@@ -6,7 +6,7 @@ use Rattle.std.proofs.lemmas.Int.{ints, by_lt_z}
 use Rattle.std.proofs.lemmas.List.Elements.{All-nil, All-cons, All-contains}
 use Rattle.graph.specs.declared.Edge.{Edge}
 use Rattle.graph.specs.Graph.{EdgeHolds, Solution, Feasible, Walk, total, NegativeCycle}
-use Rattle.graph.specs.Claims.{Among, Heavier}
+use Rattle.graph.specs.Claims.{Among, WeightsAtLeast}
 use Rattle.graph.proofs.Pigeonhole.{NotIn, Distinct, pigeonhole}
 
 -- the vertices of a walk to v, from its end
@@ -75,7 +75,7 @@ module _ (es : List Edge) where
       let b : total c.1 <ℤ pos 0 = c.3 in
       omega (arith, ints)
 
-  pub walk_weight : (w : ℕ) → Heavier w es → (v : ℕ) (p : List Edge) (u : ℕ) → Walk es v p u → neg_ℤ (pos (length p * w)) ≤ℤ total p
+  pub walk_weight : (w : ℕ) → WeightsAtLeast w es → (v : ℕ) (p : List Edge) (u : ℕ) → Walk es v p u → neg_ℤ (pos (length p * w)) ≤ℤ total p
   walk_weight w h v [] u k = omega (arith, ints)
   walk_weight w h v (e ∷ p) u k =
       let a : neg_ℤ (pos w) ≤ℤ e.weight = All-contains (λ e. neg_ℤ (pos w) ≤ℤ e.weight) es e h k.0 in

@@ -13,7 +13,7 @@ use Rattle.engine.specs.Arrangements.{Before}
 use Rattle.engine.specs.States.{State, new_state}
 use Rattle.parts.specs.declared.note_sheet.Refusal.{Refusal}
 use Rattle.parts.specs.First.{FirstCompletion}
-use Rattle.parts.specs.Noting.{RefusedAt, Walk, after_field, field_answer, front_answer, more, none}
+use Rattle.parts.specs.Noting.{RefusedAt, FieldsNoted, after_field, field_answer, front_answer, more, none}
 
 -- fields noted from the state s on, where `left` is left, up to the state t, where `right` is left
 data Onward (letter : ℕ) : State → List ℕ → State → List ℕ → Type 0 where
@@ -24,7 +24,7 @@ join : {letter : ℕ} {s t u : State} {left right end : List ℕ} → Onward let
 join here w = w
 join (on f read ok v) w = on f read ok (join v w)
 
-from_start : {letter : ℕ} {sheet left : List ℕ} {s : State} → Walk letter sheet s left → Onward letter new_state sheet s left
+from_start : {letter : ℕ} {sheet left : List ℕ} {s : State} → FieldsNoted letter sheet s left → Onward letter new_state sheet s left
 from_start none = here
 from_start (more {f = f} w read ok) = join (from_start w) (on f read ok here)
 
@@ -60,11 +60,11 @@ module _ (letter : ℕ) (sheet : List ℕ) where
   not_at_end : (p : ℕ) → p < length sheet → drop p sheet ≡ [] → ⊥
   not_at_end p a e = let none_left : length (drop p sheet) ≡ 0 = ap length e in omega (arith, length-drop p sheet)
 
-  pub whole_once : (s t : State) → Walk letter sheet s [] → Walk letter sheet t [] → s ≡ t
+  pub whole_once : (s t : State) → FieldsNoted letter sheet s [] → FieldsNoted letter sheet t [] → s ≡ t
   whole_once s t x y = (one_end (from_start x) (from_start y) (at_end s) (at_end t)).0
 
   -- a sheet that is noted whole is not refused
-  pub not_refused : (s t : State) (e : Refusal) → Walk letter sheet s [] → RefusedAt letter sheet t e → ⊥
+  pub not_refused : (s t : State) (e : Refusal) → FieldsNoted letter sheet s [] → RefusedAt letter sheet t e → ⊥
   not_refused s t e x y = not_at_end e.place y.within (sym (one_end (from_start x) (from_start y.walk) (at_end s) (e.fault, y.stops)).1)
 
   pub same_refusal : (a b : Refusal) (s t : State) → RefusedAt letter sheet s a → RefusedAt letter sheet t b → a ≡ b

@@ -6,11 +6,11 @@ use Rattle.sheet.specs.declared.term.Term.{Term}
 use Rattle.engine.specs.Arrangements.{Arrangement}
 use Rattle.engine.specs.Dates.{Dated, Undated}
 use Rattle.engine.specs.Rows.{RowKind}
-use Rattle.engine.specs.States.{State, Completion, active, with_codes}
+use Rattle.engine.specs.States.{State, Completion, active_rows, with_codes}
 use Rattle.engine.specs.Terms.{seats_of}
 use Rattle.parts.specs.Diagnoses.{MetBy, UnmetBy}
 use Rattle.parts.specs.First.{FirstCompletion, FirstPlaced}
-use Rattle.parts.specs.Noting.{Walk, WholeNoted}
+use Rattle.parts.specs.Noting.{FieldsNoted, WholeNoted}
 use Rattle.parts.proofs.Walking.{sound}
 
 -- as placing the seats asks
@@ -26,7 +26,7 @@ module _ (rule : List Term → List Row → List ℕ → Type 0) (s t : State) (
       let here : Completion rule (with_codes s (s.codes ++ p.0)) = record {
         rest = [];
         full = subst (Arrangement (length (seats_of s.terms))) (sym all) k.full;
-        allowed = subst (rule s.terms (active s.rows)) (sym all) k.allowed;
+        allowed = subst (rule s.terms (active_rows s.rows)) (sym all) k.allowed;
       } in
       subst (λ (x : State). (length x.codes ≡ length (seats_of x.terms)) × Completion rule x) (sym p.2) (k.full.full, here)
 
@@ -52,6 +52,6 @@ module _ (rule : List Term → List Row → List ℕ → Type 0) (s t : State) (
 
     pub unmet : FirstPlaced rule s t held codes false → UnmetBy rule counts picks letter sheet t
     unmet p = record {
-      walk = subst (λ (x : State). Walk letter sheet x []) (sym p.1) n.walk;
+      walk = subst (λ (x : State). FieldsNoted letter sheet x []) (sym p.1) n.walk;
       closed = λ k. p.0 (subst (Completion rule) p.1 k);
     }

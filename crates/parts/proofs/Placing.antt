@@ -5,7 +5,7 @@ use Rattle.sheet.specs.declared.row.Row.{Row}
 use Rattle.sheet.specs.declared.term.Term.{Term}
 use Rattle.engine.specs.declared.engine.Engine.{Ghosts}
 use Rattle.engine.specs.Arrangements.{Arrangement, Before}
-use Rattle.engine.specs.States.{State, Completion, active, with_codes, with_code}
+use Rattle.engine.specs.States.{State, Completion, active_rows, with_codes, with_code}
 use Rattle.engine.specs.Terms.{seats_of}
 use Rattle.parts.specs.First.{FirstCompletion, FirstPlaced, LeastPlaced}
 use Rattle.engine.proofs.Codes.{before_front, before_push}
@@ -14,7 +14,7 @@ use Rattle.parts.proofs.Trying.{fitting}
 -- the engine holds s with the codes `more` placed on top: it is open, and nothing that is allowed comes before
 pub record Begun (rule : List Term → List Row → List ℕ → Type 0) (s : State) (more : List ℕ) : Type 0 where
   pub completed : Completion rule (with_codes s (s.codes ++ more))
-  pub none_before : (other : List ℕ) → Arrangement (length (seats_of s.terms)) (s.codes ++ other) → rule s.terms (active s.rows) (s.codes ++ other) → Before (s.codes ++ other) (s.codes ++ more) → ⊥
+  pub none_before : (other : List ℕ) → Arrangement (length (seats_of s.terms)) (s.codes ++ other) → rule s.terms (active_rows s.rows) (s.codes ++ other) → Before (s.codes ++ other) (s.codes ++ more) → ⊥
 
 module _ (rule : List Term → List Row → List ℕ → Type 0) (s : State) where
   pub begin : Completion rule s → Begun rule s []
@@ -35,7 +35,7 @@ module _ (rule : List Term → List Row → List ℕ → Type 0) (s : State) whe
         least q.0 q.2 (record {
           rest = q.1;
           full = subst (Arrangement (length (seats_of s.terms))) e a;
-          allowed = subst (rule s.terms (active s.rows)) e r;
+          allowed = subst (rule s.terms (active_rows s.rows)) e r;
         }))
         (before_push (s.codes ++ other) (s.codes ++ more) c (subst (Before (s.codes ++ other)) (sym (append_assoc s.codes more (c ∷ []))) h));
   }
@@ -43,15 +43,15 @@ module _ (rule : List Term → List Row → List ℕ → Type 0) (s : State) whe
   -- no code keeps the engine open, so every seat is placed
   pub end : (more : List ℕ) → Begun rule s more → ((c : ℕ) → Completion rule (with_codes s ((s.codes ++ more) ++ c ∷ [])) → ⊥) → FirstCompletion rule s more
   end more b None-more =
-      let stop : (rest : List ℕ) → Arrangement (length (seats_of s.terms)) ((s.codes ++ more) ++ rest) → rule s.terms (active s.rows) ((s.codes ++ more) ++ rest) → Arrangement (length (seats_of s.terms)) (s.codes ++ more) × rule s.terms (active s.rows) (s.codes ++ more) =
-      λ rest. elim rest as (λ x. Arrangement (length (seats_of s.terms)) ((s.codes ++ more) ++ x) → rule s.terms (active s.rows) ((s.codes ++ more) ++ x) → Arrangement (length (seats_of s.terms)) (s.codes ++ more) × rule s.terms (active s.rows) (s.codes ++ more)) [
-        | [] ↦ λ a r. (subst (Arrangement (length (seats_of s.terms))) (append-nil (s.codes ++ more)) a, subst (rule s.terms (active s.rows)) (append-nil (s.codes ++ more)) r)
+      let stop : (rest : List ℕ) → Arrangement (length (seats_of s.terms)) ((s.codes ++ more) ++ rest) → rule s.terms (active_rows s.rows) ((s.codes ++ more) ++ rest) → Arrangement (length (seats_of s.terms)) (s.codes ++ more) × rule s.terms (active_rows s.rows) (s.codes ++ more) =
+      λ rest. elim rest as (λ x. Arrangement (length (seats_of s.terms)) ((s.codes ++ more) ++ x) → rule s.terms (active_rows s.rows) ((s.codes ++ more) ++ x) → Arrangement (length (seats_of s.terms)) (s.codes ++ more) × rule s.terms (active_rows s.rows) (s.codes ++ more)) [
+        | [] ↦ λ a r. (subst (Arrangement (length (seats_of s.terms))) (append-nil (s.codes ++ more)) a, subst (rule s.terms (active_rows s.rows)) (append-nil (s.codes ++ more)) r)
         | d ∷ ds ↦ λ a r.
             let e : (s.codes ++ more) ++ (d ∷ ds) ≡ ((s.codes ++ more) ++ d ∷ []) ++ ds = sym (append_assoc (s.codes ++ more) (d ∷ []) ds) in
             absurd (None-more d (record {
               rest = ds;
               full = subst (Arrangement (length (seats_of s.terms))) e a;
-              allowed = subst (rule s.terms (active s.rows)) e r;
+              allowed = subst (rule s.terms (active_rows s.rows)) e r;
             }))
       ] in
       let w = stop b.completed.rest b.completed.full b.completed.allowed in

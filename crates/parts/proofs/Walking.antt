@@ -8,11 +8,11 @@ use Rattle.sheet.specs.Parsing.{outcome, parse, remaining, rest_after, stated_le
 use Rattle.engine.specs.States.{State, new_state}
 use Rattle.engine.specs.Terms.{seats_of}
 use Rattle.parts.specs.declared.note_sheet.Refusal.{Refusal}
-use Rattle.parts.specs.Noting.{RefusedAt, SheetNoted, Walk, WholeNoted, after_field, field_answer, front_answer, row_stands, is_row, more, none, seat_of}
+use Rattle.parts.specs.Noting.{RefusedAt, SheetNoted, FieldsNoted, WholeNoted, after_field, field_answer, front_answer, row_stands, is_row, more, none, seat_of}
 use Rattle.parts.proofs.Accepting.{Accepted, Sound, accepted}
 
 -- no more than 8 seats and 32 terms, and no code is placed
-pub sound : {letter : ℕ} {sheet : List ℕ} {s : State} {left : List ℕ} → Walk letter sheet s left → Sound s
+pub sound : {letter : ℕ} {sheet : List ℕ} {s : State} {left : List ℕ} → FieldsNoted letter sheet s left → Sound s
 sound none = record { few = omega arith; short = omega arith; bare = refl }
 sound {letter = letter} (more {s = t} {f = f} w read ok) = (accepted letter t f (sound w) ok).sound
 
@@ -32,7 +32,7 @@ took t u r field is answer rest used = record {
 
 -- t is left of the sheet s: the engine holds the state q, and the counts and the list of seats say so
 pub record Walked (letter : ℕ) (s t : List ℕ) (q : State) (terms : ℕ) (rowed : Bool) (seats : List ℕ) : Type 0 where
-  pub walk : Walk letter s q t
+  pub walk : FieldsNoted letter s q t
   pub long : length t ≤ length s
   pub place : t ≡ drop (length s - length t) s
   pub count : terms ≡ length q.terms
@@ -43,7 +43,7 @@ pub start : (letter : ℕ) (s : List ℕ) (q : State) (seats : List ℕ) → q �
 start letter s q seats e listed =
     let z : 0 ≡ length s - length s = omega arith in
     record {
-      walk = subst (λ x. Walk letter s x s) (sym e) none;
+      walk = subst (λ x. FieldsNoted letter s x s) (sym e) none;
       long = omega arith;
       place = ap (λ n. drop n s) z;
       count = ap (λ (x : State). length x.terms) (sym e);
@@ -75,7 +75,7 @@ module _ (letter : ℕ) (s t : List ℕ) (q : State) (terms : ℕ) (rowed : Bool
         let sum : length s - length t + size ≡ length s - length u = omega arith in
         let ends : u ≡ drop size t = k.rest ∙ ap (λ r. rest_after r t) k.read in
         record {
-          walk = subst (λ x. Walk letter s x u) (sym e) (subst (Walk letter s (after_field q f)) (sym k.rest) (more w.walk k.read (sym ok)));
+          walk = subst (λ x. FieldsNoted letter s x u) (sym e) (subst (FieldsNoted letter s (after_field q f)) (sym k.rest) (more w.walk k.read (sym ok)));
           long = omega arith;
           place = ends ∙ ap (drop size) w.place ∙ drop-drop size (length s - length t) s ∙ ap (λ x. drop x s) sum;
           count = counted ∙ ap (λ n. n + cond (is_row f) 0 1) w.count ∙ sym now_accepted.counted ∙ ap (λ (x : State). length x.terms) (sym e);
@@ -85,7 +85,7 @@ module _ (letter : ℕ) (s t : List ℕ) (q : State) (terms : ℕ) (rowed : Bool
 
   -- no byte is left
   pub whole : length t ≡ 0 → WholeNoted letter s q seats
-  whole none_left = record { walk = subst (Walk letter s q) (nil_from_length t none_left) w.walk; listed = w.listed }
+  whole none_left = record { walk = subst (FieldsNoted letter s q) (nil_from_length t none_left) w.walk; listed = w.listed }
 
   -- what is left is refused, and the engine holds p then
   pub refused : (p : State) (fault : Fault) (r : Result (Unit {0}) Refusal) → (length t ≡ 0 → ⊥) → front_answer letter q (parse t) ≡ Err fault → r ≡ Err (record { fault = fault; place = length s - length t }) → p ≡ new_state → SheetNoted letter s p seats r
@@ -95,7 +95,7 @@ module _ (letter : ℕ) (s t : List ℕ) (q : State) (terms : ℕ) (rowed : Bool
       let e : Refusal = record { fault = fault; place = length s - length t } in
       let at : RefusedAt letter s p e = record {
         held = q;
-        walk = subst (Walk letter s q) w.place w.walk;
+        walk = subst (FieldsNoted letter s q) w.place w.walk;
         within = omega arith;
         stops = ap (λ x. front_answer letter q (parse x)) (sym w.place) ∙ stops;
         new = new;

@@ -9,13 +9,13 @@ use Rattle.engine.specs.Terms.{seats_of}
 use Rattle.parts.specs.declared.diagnosis.Diagnosis.{Diagnosis}
 use Rattle.parts.specs.declared.diagnosis.Diagnosis.TheVariants.{Met, Unmet, Refused}
 use Rattle.parts.specs.First.{FirstCompletion}
-use Rattle.parts.specs.Noting.{RefusedAt, Walk}
+use Rattle.parts.specs.Noting.{RefusedAt, FieldsNoted}
 
 module _ (rule : List Term → List Row → List ℕ → Type 0) (counts : RowKind → Bool) (picks : List Term → List Row → List ℕ → List ℤ → Type 0) (letter : ℕ) (sheet : List ℕ) (t : State) where
   -- the whole sheet is noted, the codes are the first arrangement that is allowed, and the dates are right for it
   pub record MetBy (codes seats : List ℕ) (dates : List ℤ) : Type 0 where
     pub noted : State
-    pub walk : Walk letter sheet noted []
+    pub walk : FieldsNoted letter sheet noted []
     pub bare : noted.codes ≡ []
     pub listed : seats ≡ seats_of noted.terms
     pub first : FirstCompletion rule noted codes
@@ -24,7 +24,7 @@ module _ (rule : List Term → List Row → List ℕ → Type 0) (counts : RowKi
 
   -- the whole sheet is noted, and no arrangement is allowed
   pub record UnmetBy : Type 0 where
-    pub walk : Walk letter sheet t []
+    pub walk : FieldsNoted letter sheet t []
     pub closed : Completion rule t → ⊥
 
   -- the engine holds t then

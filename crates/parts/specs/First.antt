@@ -3,15 +3,15 @@ use Rattle.std.specs.Prelude.{◌≡◌, ℕ, ◌<◌, Bool, true, false, List, 
 use Rattle.sheet.specs.declared.row.Row.{Row}
 use Rattle.sheet.specs.declared.term.Term.{Term}
 use Rattle.engine.specs.Arrangements.{Arrangement, Before}
-use Rattle.engine.specs.States.{State, Completion, active, with_code, with_codes}
+use Rattle.engine.specs.States.{State, Completion, active_rows, with_code, with_codes}
 use Rattle.engine.specs.Terms.{seats_of}
 
 module _ (rule : List Term → List Row → List ℕ → Type 0) (s : State) where
   -- the codes placed and then `rest` are an arrangement that the rule allows, and no allowed one that begins alike comes before it
   pub record FirstCompletion (rest : List ℕ) : Type 0 where
     pub full : Arrangement (length (seats_of s.terms)) (s.codes ++ rest)
-    pub allowed : rule s.terms (active s.rows) (s.codes ++ rest)
-    pub first : (other : List ℕ) → Arrangement (length (seats_of s.terms)) (s.codes ++ other) → rule s.terms (active s.rows) (s.codes ++ other) → Before (s.codes ++ other) (s.codes ++ rest) → ⊥
+    pub allowed : rule s.terms (active_rows s.rows) (s.codes ++ rest)
+    pub first : (other : List ℕ) → Arrangement (length (seats_of s.terms)) (s.codes ++ other) → rule s.terms (active_rows s.rows) (s.codes ++ other) → Before (s.codes ++ other) (s.codes ++ rest) → ⊥
 
   -- an engine that holds s tries codes for the next seat, and holds t then: the least code that keeps it open is placed; or there is none,
   -- and nothing is placed

@@ -39,9 +39,9 @@ front_answer letter s (Ok f) = field_answer letter s f
 front_answer letter s (Err e) = Err e
 
 -- the fields at the front of the sheet were noted in a new engine, which holds s then, and `left` is left of the sheet
-pub data Walk (letter : ℕ) (sheet : List ℕ) : State → List ℕ → Type 0 where
-  none : Walk letter sheet new_state sheet
-  more : {s : State} {left : List ℕ} {f : FieldValue} → Walk letter sheet s left → parse left ≡ Ok f → field_answer letter s f ≡ Ok tt → Walk letter sheet (after_field s f) (remaining left)
+pub data FieldsNoted (letter : ℕ) (sheet : List ℕ) : State → List ℕ → Type 0 where
+  none : FieldsNoted letter sheet new_state sheet
+  more : {s : State} {left : List ℕ} {f : FieldValue} → FieldsNoted letter sheet s left → parse left ≡ Ok f → field_answer letter s f ≡ Ok tt → FieldsNoted letter sheet (after_field s f) (remaining left)
 
 -- the seat that a field adds, as term n
 abbrev pub seat_of : ℕ → FieldValue → List ℕ
@@ -50,13 +50,13 @@ seat_of n (row_field r) = []
 
 -- every byte belongs to a field that was noted: the engine holds t then, and `seats` lists its dated terms
 pub record WholeNoted (letter : ℕ) (sheet : List ℕ) (t : State) (seats : List ℕ) : Type 0 where
-  pub walk : Walk letter sheet t []
+  pub walk : FieldsNoted letter sheet t []
   pub listed : seats ≡ seats_of t.terms
 
 -- the fields before the place were noted, and the one that starts there is refused: the engine is new then
 pub record RefusedAt (letter : ℕ) (sheet : List ℕ) (t : State) (e : Refusal) : Type 0 where
   pub held : State
-  pub walk : Walk letter sheet held (drop e.place sheet)
+  pub walk : FieldsNoted letter sheet held (drop e.place sheet)
   pub within : e.place < length sheet
   pub stops : front_answer letter held (parse (drop e.place sheet)) ≡ Err e.fault
   pub new : t ≡ new_state

@@ -89,15 +89,15 @@ fn note_field<E: Engine>(engine: &mut E, field: &Field<'_>, has_row: bool) -> Re
     }
 }
 
-// Adds the index `terms` to the seats, where the field is a dated term.
-fn list_seat(field: &Field<'_>, terms: u8, seats: &mut Vec<u8>)
-    requires { vec_len seats.old + length (seat_of terms (value_of field.now)) ≤ vec_capacity seats.old }
-    ensures items { seats.new.items ≡ seats.old.items ++ seat_of terms (value_of field.now) }
+// Adds the index to the seats, where the field is a dated term.
+fn list_seat(field: &Field<'_>, index: u8, seats: &mut Vec<u8>)
+    requires { vec_len seats.old + length (seat_of index (value_of field.now)) ≤ vec_capacity seats.old }
+    ensures items { seats.new.items ≡ seats.old.items ++ seat_of index (value_of field.now) }
     ensures capacity { vec_capacity seats.new ≡ vec_capacity seats.old }
 {
     if let Field::Term { term, .. } = field {
         if is_dated(term.kind) {
-            seats.push_reserved(terms);
+            seats.push_reserved(index);
         }
     }
 }

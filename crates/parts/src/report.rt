@@ -1,7 +1,7 @@
 // What the program prints of a sheet.
 ghost use Rattle.std.specs.Prelude.{◌≡◌, ◌≤◌, length, IfOk, string_bytes};
 ghost use Rattle.parts.specs.Diagnoses.{Diagnosed};
-ghost use Rattle.parts.specs.Lines.{Listable, OnlyReport, report_of, seat_lines};
+ghost use Rattle.parts.specs.Lines.{IsListable, OnlyReport, report_of, seat_lines};
 
 use crate::diagnosis::{Diagnosis, diagnose};
 use crate::words::Seat;
@@ -45,7 +45,7 @@ pub(crate) fn report_sheet<E: Dating>(
 
 // The lines of a diagnosis.
 fn write_lines(heap: Global, diagnosis: &Diagnosis) -> Result<String, AllocError>
-    requires { Listable diagnosis.now }
+    requires { IsListable diagnosis.now }
     ensures { IfOk result (λ text. string_bytes text ≡ report_of diagnosis.now) }
 {
     match diagnosis {

@@ -7,7 +7,7 @@ use Rattle.std.proofs.lemmas.List.{get_or-map, length-take-le, map_more, length-
 use Rattle.std.proofs.lemmas.Int.{ints}
 use Rattle.std.proofs.lemmas.Bool.{both_ways, cases_Bool, cond-true, cond-false, eq-eqb, eqb-true}
 use Rattle.graph.specs.declared.Edge.{Edge}
-use Rattle.graph.specs.Claims.{after, Below, LowSolution}
+use Rattle.graph.specs.Claims.{after, AtMost, LowSolution}
 use Rattle.graph.specs.Graph.{EdgeHolds, Solution, at, is_stable}
 use Rattle.graph.proofs.Deciding.{bounded_among, greatest}
 use Rattle.sheet.specs.declared.row.Row.{Row}
@@ -19,7 +19,7 @@ use Rattle.engine.specs.Dates.{CountedHolds, GreatestDates, RightDates, date_at}
 use Rattle.engine.specs.Fitting.{all_rows_fit, all_terms_fit}
 use Rattle.engine.specs.Meaning.{Numbers}
 use Rattle.engine.specs.Rules.{SpanFits, SpanHolds, seat_numbers}
-use Rattle.engine.specs.States.{active}
+use Rattle.engine.specs.States.{active_rows}
 use Rattle.engine.specs.Terms.{seats_of}
 use Rattle.engine.proofs.Filling.{fill_next}
 use Rattle.engine.proofs.Ranks.{length_ranks}
@@ -86,7 +86,7 @@ module _ (ts : List Term) (ms : List Noted) (codes : List ℕ) (zeroth : all_ter
   ss = seats_of ts
 
   abbrev es : List Edge
-  es = constraints ts (active ms) codes
+  es = constraints ts (active_rows ms) codes
 
   abbrev d : List ℤ
   d = after 32 (length ss) es
@@ -98,11 +98,11 @@ module _ (ts : List Term) (ms : List Noted) (codes : List ℕ) (zeroth : all_ter
   seat_low p l = let i = All-get_or (λ s. s < length ts) ss p 0 l (seats_within ts) in omega arith
 
   module _ (stable : is_stable es d ≡ true) where
-    best : LowSolution 32 es (at d) × ((x : ℕ → ℤ) → LowSolution 32 es x → Below 32 x (at d))
+    best : LowSolution 32 es (at d) × ((x : ℕ → ℤ) → LowSolution 32 es x → AtMost 32 x (at d))
     best = greatest 32 (length ss) es (edges_within ts es few fits) stable
 
-    pub fitting : SpanFits ts (active ms) codes (at d)
-    fitting = solutions_fit ts (active ms) codes (at d) placed best.0.0
+    pub fitting : SpanFits ts (active_rows ms) codes (at d)
+    fitting = solutions_fit ts (active_rows ms) codes (at d) placed best.0.0
 
     pub in_limits : (s : ℕ) → Contains ss s → InLimits d s
     in_limits s h =
@@ -117,13 +117,13 @@ module _ (ts : List Term) (ms : List Noted) (codes : List ℕ) (zeroth : all_ter
     pub zero_in_limits : InLimits d 0
     zero_in_limits = let z = seat_of_zero ts zeroth in subst (InLimits d) z.1 (All-get_or (InLimits d) ss 0 0 z.0 all_in_limits)
 
-    lower : (v : Numbers) → SpanFits ts (active ms) codes v → ((q : ℕ) → q < length ss → seat_numbers ts v q ≤ℤ pos 0) → (p : ℕ) → p < length ss → seat_numbers ts v p ≤ℤ seat_numbers ts (at d) p
+    lower : (v : Numbers) → SpanFits ts (active_rows ms) codes v → ((q : ℕ) → q < length ss → seat_numbers ts v q ≤ℤ pos 0) → (p : ℕ) → p < length ss → seat_numbers ts v p ≤ℤ seat_numbers ts (at d) p
     lower v f low p l =
         let same : (s : ℕ) → Contains ss s → cut_off v s ≡ v s = λ s h. cut_same v s (All-contains (λ x. v x ≤ℤ pos 0) ss s (All-from_get_or (λ x. v x ≤ℤ pos 0) ss 0 low) h) in
         let solves : Solution es (cut_off v) =
         all_both (EdgeFits ss) (EdgeHolds v) (EdgeHolds (cut_off v))
         (λ e g h. let a = same e.to g.0 in let b = same e.from g.1 in let k : v e.to ≤ℤ (v e.from +ℤ e.weight) = h in omega (arith, ints))
-        es fits (fits_solve ts (active ms) codes v f) in
+        es fits (fits_solve ts (active_rows ms) codes v f) in
         let i = seat_low p l in
         let m : cut_off v (slice_index ss p) ≤ℤ at d (slice_index ss p) = best.1 (cut_off v) (solves, λ t _. cut_low v t) (slice_index ss p) i in
         let n : cut_off v (slice_index ss p) ≡ v (slice_index ss p) = same (slice_index ss p) (Contains-get_or ss p 0 l) in
@@ -132,7 +132,7 @@ module _ (ts : List Term) (ms : List Noted) (codes : List ℕ) (zeroth : all_ter
     seat_date : (p : ℕ) → p < length ss → slice_index_or (from_zero d ss) p (pos 0) ≡ seat_numbers ts (at d) p -ℤ at d 0
     seat_date p l = get_or-map (λ s. at d s -ℤ at d 0) ss p 0 (pos 0) l
 
-    pub picked : GreatestDates ts (active ms) codes (from_zero d ss)
+    pub picked : GreatestDates ts (active_rows ms) codes (from_zero d ss)
     picked = record {
       numbers = seat_numbers ts (at d);
       greatest = record {
@@ -189,5 +189,5 @@ module _ (ts : List Term) (ms : List Noted) (codes : List ℕ) (zeroth : all_ter
               (omega (arith, ints), omega (arith, ints));
           zero_first = omega (arith, ints);
           ordered = date_order;
-          hold = rows_dated (active ms) (all_front (EdgeFits ss) (row_edges (active ms)) (order_edges ss (ranks codes)) fits) fitting.hold;
+          hold = rows_dated (active_rows ms) (all_front (EdgeFits ss) (row_edges (active_rows ms)) (order_edges ss (ranks codes)) fits) fitting.hold;
         }

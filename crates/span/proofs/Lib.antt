@@ -4,4 +4,4 @@ mod Solutions
 mod Limits
 mod Opening
 mod Dates
-mod Settling
+mod Rounds

@@ -10,17 +10,17 @@ use Rattle.engine.specs.declared.noted.Noted.{Noted}
 use Rattle.engine.specs.Arrangements.{is_valid}
 use Rattle.engine.specs.Fitting.{all_rows_fit}
 use Rattle.engine.specs.Rules.{SpanAllowed, seat_numbers}
-use Rattle.engine.specs.States.{Completion, State, active}
+use Rattle.engine.specs.States.{Completion, State, active_rows}
 use Rattle.engine.specs.Terms.{seats_of}
 use Rattle.engine.proofs.Following.{front_extended, in_order_front}
 use Rattle.span.specs.Constraints.{constraints}
-use Rattle.span.specs.Decisions.{Decision, settles}
+use Rattle.span.specs.Decisions.{Decision, becomes_stable}
 use Rattle.span.proofs.Limits.{constraints_fit, edges_among, edges_within}
 use Rattle.span.proofs.Solutions.{fits_solve, solutions_fit}
 
-pub decided : (ts : List Term) (ms : List Noted) (codes : List ℕ) → length ts ≤ 32 → all_rows_fit ts ms ≡ true → length codes ≤ length (seats_of ts) → Decision ts (active ms) codes (settles ts (active ms) codes)
+pub decided : (ts : List Term) (ms : List Noted) (codes : List ℕ) → length ts ≤ 32 → all_rows_fit ts ms ≡ true → length codes ≤ length (seats_of ts) → Decision ts (active_rows ms) codes (becomes_stable ts (active_rows ms) codes)
 decided ts ms codes few fit placed =
-    let rows = active ms in
+    let rows = active_rows ms in
     let ss = seats_of ts in
     let es = constraints ts rows codes in
     let all = constraints_fit ts ms codes fit in
@@ -34,13 +34,13 @@ decided ts ms codes few fit placed =
     }
 
 -- numbers that fit the codes placed extend to an allowed arrangement
-pub opened : (s : State) → length s.codes ≤ length (seats_of s.terms) → is_valid 0 s.codes ≡ true → SpanAllowed s.terms (active s.rows) s.codes → Completion SpanAllowed s
+pub opened : (s : State) → length s.codes ≤ length (seats_of s.terms) → is_valid 0 s.codes ≡ true → SpanAllowed s.terms (active_rows s.rows) s.codes → Completion SpanAllowed s
 opened s placed valid (v, f) =
     let e = front_extended (length (seats_of s.terms)) s.codes (seat_numbers s.terms v) placed valid f.ordered in
     record { rest = e.0; full = e.1; allowed = (v, record { hold = f.hold; ordered = e.2 }) }
 
 -- and those of an allowed arrangement fit the codes that begin it
-pub begun : (s : State) → Completion SpanAllowed s → SpanAllowed s.terms (active s.rows) s.codes
+pub begun : (s : State) → Completion SpanAllowed s → SpanAllowed s.terms (active_rows s.rows) s.codes
 begun s k =
     let v = k.allowed.0 in
     let f = k.allowed.1 in

@@ -7,7 +7,7 @@ use Rattle.graph.specs.declared.Edge.{Edge}
 use Rattle.sheet.specs.declared.row.Row.{Row}
 use Rattle.sheet.specs.declared.row.Row.TheVariants.{Span, Same, Unlike}
 use Rattle.engine.specs.declared.noted.Noted.{Noted}
-use Rattle.engine.specs.States.{active}
+use Rattle.engine.specs.States.{active_rows}
 use Rattle.span.specs.Constraints.{edge, row_edges, pair_edges, edges_with, order_edges}
 
 -- one part more is listed: `now` is what is listed then
@@ -34,11 +34,11 @@ noted_parts : (b : Bool) (r : Row) (rows : List Row) → row_edges (cond b (r �
 noted_parts true r rows = row_parts r rows
 noted_parts false r rows = refl
 
-pub rows_more : (d : Noted) (ms : List Noted) (i : ℕ) → i < length ms → row_edges (active (drop i ms)) ≡ row_edges (active (slice_index_or ms i d ∷ [])) ++ row_edges (active (drop (i + 1) ms))
-rows_more d ms i l = at_drop_more (λ ns. row_edges (active ns)) ms i d l ∙ noted_parts (get_or ms i d).active (get_or ms i d).row (active (drop (i + 1) ms))
+pub rows_more : (d : Noted) (ms : List Noted) (i : ℕ) → i < length ms → row_edges (active_rows (drop i ms)) ≡ row_edges (active_rows (slice_index_or ms i d ∷ [])) ++ row_edges (active_rows (drop (i + 1) ms))
+rows_more d ms i l = at_drop_more (λ ns. row_edges (active_rows ns)) ms i d l ∙ noted_parts (get_or ms i d).active (get_or ms i d).row (active_rows (drop (i + 1) ms))
 
-pub rows_end : (ms : List Noted) (i : ℕ) → length ms ≤ i → row_edges (active (drop i ms)) ≡ []
-rows_end ms i l = at_drop_all (λ ns. row_edges (active ns)) ms i l
+pub rows_end : (ms : List Noted) (i : ℕ) → length ms ≤ i → row_edges (active_rows (drop i ms)) ≡ []
+rows_end ms i l = at_drop_all (λ ns. row_edges (active_rows ns)) ms i l
 
 -- pairs of seats
 with_cut : (s r : ℕ) (ss rs : List ℕ) (i : ℕ) → i < length ss → i < length rs → edges_with s r (drop i ss) (drop i rs) ≡ pair_edges s r (slice_index ss i) (slice_index rs i) ++ edges_with s r (drop (i + 1) ss) (drop (i + 1) rs)
@@ -65,10 +65,10 @@ pub order_end : (ss rs : List ℕ) (i : ℕ) → length rs ≤ i → order_edges
 order_end ss rs i l = at_drop_all (λ us. order_edges (drop i ss) us) rs i l ∙ order_none (drop i ss)
 
 -- how many there are
-pub few_rows : (ms : List Noted) → length (row_edges (active ms)) ≤ length ms
+pub few_rows : (ms : List Noted) → length (row_edges (active_rows ms)) ≤ length ms
 few_rows [] = omega arith
 few_rows (m ∷ ms) =
-    let whole = ap length (noted_parts m.active m.row (active ms)) ∙ length-append (row_edges (active (m ∷ []))) (row_edges (active ms)) in
+    let whole = ap length (noted_parts m.active m.row (active_rows ms)) ∙ length-append (row_edges (active_rows (m ∷ []))) (row_edges (active_rows ms)) in
     let one = few_row m.active m.row in
     let more = few_rows ms in
     omega arith

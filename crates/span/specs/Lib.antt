@@ -1,3 +1,4 @@
+pub mod SpanState
 pub mod Constraints
 pub mod Dating
 pub mod Decisions

@@ -3,5 +3,5 @@ use Rattle.std.specs.Prelude.{List, take}
 use Rattle.graph.specs.declared.Edge.{Edge}
 use Rattle.span.specs.declared.edge_list.EdgeList.{EdgeList}
 
-abbrev pub listed : EdgeList → List Edge
-listed l = take l.count l.edges
+abbrev pub edges_of : EdgeList → List Edge
+edges_of l = take l.count l.edges

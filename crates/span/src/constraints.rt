@@ -1,8 +1,8 @@
 // The constraints of an engine as edges.
 ghost use Rattle.std.specs.Prelude.{◌≡◌, ℕ, ◌+◌, ◌≤◌, [], ◌∷◌, ◌++◌, length};
-ghost use Rattle.engine.specs.States.{active};
+ghost use Rattle.engine.specs.States.{active_rows};
 ghost use Rattle.span.specs.Constraints.{edges_with, order_edges, pair_edges, row_edges};
-ghost use Rattle.span.specs.Lists.{listed};
+ghost use Rattle.span.specs.Lists.{edges_of};
 
 use crate::edge_list::EdgeList;
 use engine::noted::Noted;
@@ -14,8 +14,8 @@ const GAP: i32 = -1;
 
 // The edge of a row, if it is an active span.
 fn list_row(noted: Noted, list: &mut EdgeList)
-    requires { length (listed list.old) + length (row_edges (active (noted ∷ []))) ≤ 128 }
-    ensures { listed list.new ≡ listed list.old ++ row_edges (active (noted ∷ [])) }
+    requires { length (edges_of list.old) + length (row_edges (active_rows (noted ∷ []))) ≤ 128 }
+    ensures { edges_of list.new ≡ edges_of list.old ++ row_edges (active_rows (noted ∷ [])) }
 {
     if noted.active {
         if let Row::Span { left, right, bound } = noted.row {
@@ -30,8 +30,8 @@ fn list_row(noted: Noted, list: &mut EdgeList)
 
 // An edge for each active span row.
 pub(crate) fn list_rows(rows: &[Noted], list: &mut EdgeList)
-    requires { length (listed list.old) + length (row_edges (active rows.now)) ≤ 128 }
-    ensures { listed list.new ≡ listed list.old ++ row_edges (active rows.now) }
+    requires { length (edges_of list.old) + length (row_edges (active_rows rows.now)) ≤ 128 }
+    ensures { edges_of list.new ≡ edges_of list.old ++ row_edges (active_rows rows.now) }
 {
     for noted in rows {
         list_row(*noted, list);
@@ -40,8 +40,8 @@ pub(crate) fn list_rows(rows: &[Noted], list: &mut EdgeList)
 
 // The edges between two seats, by their terms s and t and their ranks r and q.
 fn list_pair(s: u8, r: u8, t: u8, q: u8, list: &mut EdgeList)
-    requires { length (listed list.old) + length (pair_edges s r t q) ≤ 128 }
-    ensures { listed list.new ≡ listed list.old ++ pair_edges s r t q }
+    requires { length (edges_of list.old) + length (pair_edges s r t q) ≤ 128 }
+    ensures { edges_of list.new ≡ edges_of list.old ++ pair_edges s r t q }
 {
     if r < q {
         list.push(Edge {
@@ -72,8 +72,8 @@ fn list_pair(s: u8, r: u8, t: u8, q: u8, list: &mut EdgeList)
 // The edges between the seat of the term s, which has the rank r, and each of the seats.
 fn list_pairs(s: u8, r: u8, seats: &[u8], ranks: &[u8], list: &mut EdgeList)
     requires ranked { length ranks.now ≤ length seats.now }
-    requires room { length (listed list.old) + length (edges_with s r seats.now ranks.now) ≤ 128 }
-    ensures { listed list.new ≡ listed list.old ++ edges_with s r seats.now ranks.now }
+    requires room { length (edges_of list.old) + length (edges_with s r seats.now ranks.now) ≤ 128 }
+    ensures { edges_of list.new ≡ edges_of list.old ++ edges_with s r seats.now ranks.now }
 {
     for p in 0..ranks.len() {
         list_pair(s, r, seats[p], ranks[p], list);
@@ -83,8 +83,8 @@ fn list_pairs(s: u8, r: u8, seats: &[u8], ranks: &[u8], list: &mut EdgeList)
 // The edges between each placed seat and each later one.
 pub(crate) fn list_order(seats: &[u8], ranks: &[u8], list: &mut EdgeList)
     requires ranked { length ranks.now ≤ length seats.now }
-    requires room { length (listed list.old) + length (order_edges seats.now ranks.now) ≤ 128 }
-    ensures { listed list.new ≡ listed list.old ++ order_edges seats.now ranks.now }
+    requires room { length (edges_of list.old) + length (order_edges seats.now ranks.now) ≤ 128 }
+    ensures { edges_of list.new ≡ edges_of list.old ++ order_edges seats.now ranks.now }
 {
     for p in 0..ranks.len() {
         list_pairs(seats[p], ranks[p], &seats[p + 1..], &ranks[p + 1..], list);

@@ -13,10 +13,10 @@ pub struct EdgeList {
 }
 
 impl EdgeList {
-    ghost use Rattle.span.specs.Lists.{listed};
+    ghost use Rattle.span.specs.Lists.{edges_of};
 
     pub(crate) fn new() -> EdgeList
-        ensures { listed result ≡ [] }
+        ensures { edges_of result ≡ [] }
     {
         let none = Edge {
             to: 0,
@@ -30,15 +30,15 @@ impl EdgeList {
     }
 
     pub(crate) fn push(&mut self, edge: Edge)
-        requires { length (listed self.old) < 128 }
-        ensures { listed self.new ≡ listed self.old ++ edge ∷ [] }
+        requires { length (edges_of self.old) < 128 }
+        ensures { edges_of self.new ≡ edges_of self.old ++ edge ∷ [] }
     {
         self.edges[self.count] = edge;
         self.count += 1;
     }
 
     pub(crate) fn as_slice(&self) -> &[Edge]
-        ensures { result.now ≡ listed self.now }
+        ensures { result.now ≡ edges_of self.now }
     {
         &self.edges[0..self.count]
     }

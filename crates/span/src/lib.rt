@@ -2,7 +2,7 @@
 // The span engine: difference bounds between instants, decided by Bellman-Ford.
 mod constraints;
 mod edge_list;
-mod settle;
+mod relaxing;
 pub mod span;
 pub mod span_dating;
 pub mod span_engine;

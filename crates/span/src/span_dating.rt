@@ -21,7 +21,7 @@ fn date_of(term: u8, distances: &[i64]) -> i64
 }
 
 // The distance of each seat's term, counted from zero's, and 0 at each place that is left of 8.
-fn count_from_zero(seats: &[u8], distances: &[i64]) -> [i64; 8]
+fn dates_from_distances(seats: &[u8], distances: &[i64]) -> [i64; 8]
     requires few { length seats.now ≤ 8 }
     requires long { length distances.now ≡ 32 }
     requires zero { InLimits distances.now 0 }
@@ -44,10 +44,10 @@ impl Dating for Span {
     ghost once = { λ n ts rows codes a b x y. same_greatest_dates ts rows codes a b x y };
 
     fn dates(&self) -> Result<[i64; 8], Fault> {
-        let (settled, distances) = self.settle_terms();
-        if self.held.codes().len() < self.held.seats().len() || !settled {
+        let (stable, distances) = self.relax_terms();
+        if self.held.codes().len() < self.held.seats().len() || !stable {
             return Err(Cause::NoDates.in_layer(<Span as Engine>::LETTER));
         }
-        Ok(count_from_zero(self.held.seats(), &distances))
+        Ok(dates_from_distances(self.held.seats(), &distances))
     }
 }

@@ -1,6 +1,6 @@
 // The span engine's calls.
-ghost use Rattle.std.specs.Prelude.{ℕ, List};
-ghost use Rattle.engine.specs.Holding.{held};
+ghost use Rattle.std.specs.Prelude.{ℕ, List, refl};
+ghost use Rattle.span.specs.SpanState.{state_in};
 ghost use Rattle.engine.specs.Rules.{SpanAllowed};
 ghost use Rattle.engine.proofs.Laws.{span_rule_without};
 
@@ -14,13 +14,16 @@ use sheet::term::Term;
 impl Engine for Span {
     const LETTER: char = 'S';
 
+    // S
     ghost LETTER = { 83 };
 
-    ghost state = { λ e. held e.held };
+    ghost state = { state_in };
 
     ghost setting = { λ _. 0 };
 
     ghost rule = { λ _ ts rows codes. SpanAllowed ts rows codes };
+
+    ghost own_letter = { refl };
 
     ghost fewer = { λ n ts front back r codes a. span_rule_without ts front back r codes a };
 

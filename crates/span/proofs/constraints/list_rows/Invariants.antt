@@ -1,8 +1,8 @@
 use Rattle.std.proofs.Common.{◌≡◌, ◌++◌, drop}
-use Rattle.engine.specs.States.{active}
+use Rattle.engine.specs.States.{active_rows}
 use Rattle.span.specs.Constraints.{row_edges}
-use Rattle.span.specs.Lists.{listed}
+use Rattle.span.specs.Lists.{edges_of}
 use Rattle.span.proofs.constraints.list_rows.Given as goal
 
 abbrev pub invariant-loop-noted : goal.invariant-loop-noted
-invariant-loop-noted l = listed l.list ++ row_edges (active (drop l.noted-index l.rows)) ≡ listed l.initial.list ++ row_edges (active l.rows)
+invariant-loop-noted l = edges_of l.list ++ row_edges (active_rows (drop l.noted-index l.rows)) ≡ edges_of l.initial.list ++ row_edges (active_rows l.rows)

@@ -1,6 +1,6 @@
 use Rattle.std.proofs.Common.{sym, subst}
-use Rattle.engine.specs.Holding.{held}
-use Rattle.engine.specs.States.{active}
+use Rattle.engine.specs.Holding.{state_of}
+use Rattle.engine.specs.States.{active_rows}
 use Rattle.engine.proofs.Bounds.{bounds}
 use Rattle.span.specs.Decisions.{Decision}
 use Rattle.span.proofs.Opening.{begun, decided, opened, solved_complete}
@@ -9,11 +9,11 @@ use Rattle.span.proofs.span.Span.is_consistent.Goals as goal
 pub returns : goal.returns
 returns c =
     let h = c.args.self.now.held in
-    let s = held h in
-    let r = c.settle_terms-settled.result.0 in
-    let d : Decision s.terms (active s.rows) s.codes r =
-    subst (Decision s.terms (active s.rows) s.codes) (sym c.settle_terms-settled.ensures.settled) (decided s.terms s.rows s.codes (bounds h).terms h.rows_fit (bounds h).placed) in
+    let s = state_of h in
+    let r = c.relax_terms-stable.result.0 in
+    let d : Decision s.terms (active_rows s.rows) s.codes r =
+    subst (Decision s.terms (active_rows s.rows) s.codes) (sym c.relax_terms-stable.ensures.stable) (decided s.terms s.rows s.codes (bounds h).terms h.rows_fit (bounds h).placed) in
     record {
       decision = d;
-      exact = (λ e. opened s (bounds h).placed h.codes_valid (d.solved e), λ k. solved_complete s.terms (active s.rows) s.codes r d (begun s k));
+      exact = (λ e. opened s (bounds h).placed h.codes_valid (d.solved e), λ k. solved_complete s.terms (active_rows s.rows) s.codes r d (begun s k));
     }

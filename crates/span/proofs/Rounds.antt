@@ -1,4 +1,4 @@
--- The loops of `settle`: what holds before each round and before each edge of a round.
+-- The loops of `relax_rounds`: what holds before each round and before each edge of a round.
 use Rattle.std.proofs.Common.{◌≡◌, ℕ, suc, ◌+◌, ◌-◌, ◌*◌, ◌^◌, ◌<◌, ◌≤◌, Bool, true, false, cond, not, ◌&&◌, List, length, get_or, drop, set, ℤ, pos, ◌+ℤ◌, neg_ℤ, ◌≤ℤ◌, ◌<ℤ◌, sym, refl, ap, ◌∙◌, subst, inl, inr, arith, w32, w64, SFits, to_z, of_z}
 use borrow.Author.Tests.{both_ways}
 use lib.Signed.{lt_z, ≤ℤ_refl}
@@ -36,7 +36,7 @@ pub record AtEdge (limit : ℕ) (es : List Edge) (r : ℕ) (s : List ℤ) (i : �
   pub stable : lowered ≡ false → is_stable (drop i es) s ≡ is_stable es s
   pub more : lowered ≡ true → r < limit
 
--- what `settle` promises of the distances and the answer
+-- what `relax_rounds` promises of the distances and the answer
 abbrev pub Settled : ℕ → ℕ → List Edge → List ℤ → Bool → Type 0
 Settled n limit es d r = (d ≡ rounds limit es (zeros n)) × (r ≡ is_stable es (rounds limit es (zeros n)))
 
@@ -128,8 +128,8 @@ module _ (n limit : ℕ) (es : List Edge) where
       less = let a : r < limit = at_edge.more on in omega arith
 
   -- past the last edge, and none was lowered: the rounds that are left change nothing
-  pub settled_early : (r : ℕ) (s : List ℤ) (i : ℕ) (d : List ℤ) (lowered : Bool) → AtRound n limit es r s → AtEdge limit es r s i d lowered → length es ≤ i → lowered ≡ false → Settled n limit es d true
-  settled_early r s i d lowered at_round at_edge high off = (at_edge.same off ∙ final, sym (ap (is_stable es) (sym final) ∙ now_stable))
+  pub stable_early : (r : ℕ) (s : List ℤ) (i : ℕ) (d : List ℤ) (lowered : Bool) → AtRound n limit es r s → AtEdge limit es r s i d lowered → length es ≤ i → lowered ≡ false → Settled n limit es d true
+  stable_early r s i d lowered at_round at_edge high off = (at_edge.same off ∙ final, sym (ap (is_stable es) (sym final) ∙ now_stable))
     where
       now_stable : is_stable es s ≡ true
       now_stable = sym (at_edge.stable off) ∙ at_drop_all (λ (fs : List Edge). is_stable fs s) es i high
@@ -138,8 +138,8 @@ module _ (n limit : ℕ) (es : List Edge) where
       final = sym (early (limit - r) es s now_stable) ∙ at_round.left
 
   -- an edge lowers its end after all rounds
-  pub unsettled : (r : ℕ) (s : List ℤ) (i : ℕ) (d : List ℤ) (lowered : Bool) → AtRound n limit es r s → AtEdge limit es r s i d lowered → i < length es → r ≡ limit → lowers (get_or es i none) d ≡ true → Settled n limit es d false
-  unsettled r s i d lowered at_round at_edge low end test = elim (cases_Bool lowered) [ inl on ↦ absurd (let a : r < limit = at_edge.more on in omega arith) | inr off ↦ first off ]
+  pub unstable_end : (r : ℕ) (s : List ℤ) (i : ℕ) (d : List ℤ) (lowered : Bool) → AtRound n limit es r s → AtEdge limit es r s i d lowered → i < length es → r ≡ limit → lowers (get_or es i none) d ≡ true → Settled n limit es d false
+  unstable_end r s i d lowered at_round at_edge low end test = elim (cases_Bool lowered) [ inl on ↦ absurd (let a : r < limit = at_edge.more on in omega arith) | inr off ↦ first off ]
     where
       final : s ≡ rounds limit es (zeros n)
       final = subst (λ (k : ℕ). rounds k es s ≡ rounds limit es (zeros n)) (let a : limit - r ≡ 0 = omega arith in a) at_round.left

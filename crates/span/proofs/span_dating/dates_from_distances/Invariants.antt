@@ -1,6 +1,6 @@
 use Rattle.std.proofs.Common.{◌≡◌, ◌-◌, ◌++◌, length, take, replicate, pos}
 use Rattle.span.specs.Dating.{from_zero}
-use Rattle.span.proofs.span_dating.count_from_zero.Given as goal
+use Rattle.span.proofs.span_dating.dates_from_distances.Given as goal
 
 -- the dates of the seats passed, and 0 at the places that are left
 abbrev pub invariant-loop-p : goal.invariant-loop-p

@@ -3,7 +3,7 @@ use Rattle.std.proofs.lemmas.List.Elements.{All-get_or}
 use Rattle.std.proofs.lemmas.List.{take_all}
 use Rattle.span.specs.Dating.{InLimits, from_zero}
 use Rattle.span.proofs.Dates.{date_next, stored}
-use Rattle.span.proofs.span_dating.count_from_zero.Goals as goal
+use Rattle.span.proofs.span_dating.dates_from_distances.Goals as goal
 
 pub date_of-requires : goal.date_of-requires
 date_of-requires c =
