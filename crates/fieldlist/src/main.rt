@@ -4,17 +4,12 @@ mod listing;
 mod words;
 mod write_back;
 
-ghost use Rattle.std.specs.Prelude.{◌≤◌, IfOk, vec_len};
-
 use crate::listing::list_fields;
-use crate::words::cause_in_words;
 use crate::write_back::{Ending, write_fields_back};
-use anyhow::anyhow;
-use std::io::Read;
-use std::{env, io};
-
-// Only so many bytes of the input are read.
-const LIMIT: usize = 8192;
+use program::arguments::asks_for_help;
+use program::causes::cause_in_words;
+use program::input::read_sheet;
+use std::io;
 
 const HELP: &str = "usage: fieldlist < SHEET
 
@@ -32,11 +27,11 @@ fn main(rt: HostRuntime) -> anyhow::Result<()> {
 }
 
 fn run(rt: &HostRuntime) -> anyhow::Result<()> {
-    if asks_for_help(rt)? {
+    if asks_for_help(rt, "fieldlist")? {
         println!(rt; "{HELP}")?;
         return Ok(());
     }
-    let sheet = read_sheet(rt)?;
+    let sheet = read_sheet(rt, "fieldlist")?;
     if sheet.is_empty() {
         eprintln!(rt; "fieldlist: no bytes came in\n{HELP}")?;
     }
@@ -46,31 +41,6 @@ fn run(rt: &HostRuntime) -> anyhow::Result<()> {
     println!(rt; "{lines}{ending}")?;
     explain(rt, ending)?;
     Ok(())
-}
-
-// Whether --help is given. There is no other argument.
-fn asks_for_help(rt: &HostRuntime) -> anyhow::Result<bool> {
-    for word in env::args(rt)?.skip(1) {
-        if word.as_str() == "--help" || word.as_str() == "-h" {
-            return Ok(true);
-        }
-        return Err(anyhow!("unknown argument: try fieldlist --help"));
-    }
-    Ok(false)
-}
-
-// The first bytes of standard input. Where more may follow, a person is told that they are not read.
-fn read_sheet(rt: &HostRuntime) -> io::Result<Vec<u8>>
-    ensures { IfOk result (λ v. vec_len v ≤ 8192) }
-{
-    let mut sheet = Vec::new(rt.alloc());
-    rt.stdin().take(LIMIT as u64).read_to_end(&mut sheet)?;
-    // `take` promises no length to the proof, so it is cut here.
-    sheet.truncate(LIMIT);
-    if sheet.len() == LIMIT {
-        eprintln!(rt; "fieldlist: {LIMIT} bytes came in, and no more are read")?;
-    }
-    Ok(sheet)
 }
 
 // Why a field was refused, for a person.

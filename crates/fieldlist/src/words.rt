@@ -4,7 +4,6 @@ ghost use Rattle.sheet.specs.Fields.{value_of};
 ghost use Rattle.std.specs.Prelude.{Some};
 
 use crate::write_back::Ending;
-use sheet::fault::Cause;
 use sheet::field::Field;
 use sheet::row::Row;
 use sheet::term::{Form, Kind};
@@ -132,18 +131,5 @@ impl fmt::Display for Ending {
                 write!(f, "refused {number} {layer} {place}")
             }
         }
-    }
-}
-
-// Why the reader refuses a field. It has no other ground than these five.
-pub(crate) fn cause_in_words(cause: Cause) -> &'static str {
-    match cause {
-        Cause::CutShort => "the bytes that were read end before the field does",
-        Cause::UnknownTag => "its tag is none of the letters T, S, E and U",
-        Cause::WrongLength => "its length is not one that its tag can have",
-        Cause::MalformedTerm =>
-            "its kind, form or table letter is wrong, or its letter or an argument is missing",
-        Cause::BadLabel => "its label is not 1 to 12 visible characters",
-        _ => "see docs/REFUSALS.md",
     }
 }

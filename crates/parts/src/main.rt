@@ -8,19 +8,14 @@ mod place_first;
 mod report;
 mod words;
 
-ghost use Rattle.std.specs.Prelude.{◌≤◌, IfOk, vec_len};
-
 use crate::diagnosis::Diagnosis;
 use crate::report::report_sheet;
-use crate::words::cause_in_words;
-use anyhow::anyhow;
 use engine::dating::Dating;
+use program::arguments::asks_for_help;
+use program::causes::cause_in_words;
+use program::input::read_sheet;
 use span::span::Span;
-use std::io::Read;
-use std::{env, io};
-
-// Only so many bytes of the input are read.
-const LIMIT: usize = 8192;
+use std::io;
 
 const HELP: &str = "usage: parts < SHEET
 
@@ -41,41 +36,16 @@ fn main(rt: HostRuntime) -> anyhow::Result<()> {
 }
 
 fn run(rt: &HostRuntime) -> anyhow::Result<()> {
-    if asks_for_help(rt)? {
+    if asks_for_help(rt, "parts")? {
         println!(rt; "{HELP}")?;
         return Ok(());
     }
-    let sheet = read_sheet(rt)?;
+    let sheet = read_sheet(rt, "parts")?;
     if sheet.is_empty() {
         eprintln!(rt; "parts: no bytes came in\n{HELP}")?;
     }
     let mut engine = Span::new(rt.alloc())?;
     print_report(rt, &mut engine, sheet.as_slice())
-}
-
-// Whether --help is given. There is no other argument.
-fn asks_for_help(rt: &HostRuntime) -> anyhow::Result<bool> {
-    for word in env::args(rt)?.skip(1) {
-        if word.as_str() == "--help" || word.as_str() == "-h" {
-            return Ok(true);
-        }
-        return Err(anyhow!("unknown argument: try parts --help"));
-    }
-    Ok(false)
-}
-
-// The first bytes of standard input. Where more may follow, a person is told that they are not read.
-fn read_sheet(rt: &HostRuntime) -> io::Result<Vec<u8>>
-    ensures { IfOk result (λ v. vec_len v ≤ 8192) }
-{
-    let mut sheet = Vec::new(rt.alloc());
-    rt.stdin().take(LIMIT as u64).read_to_end(&mut sheet)?;
-    // `take` promises no length to the proof, so it is cut here.
-    sheet.truncate(LIMIT);
-    if sheet.len() == LIMIT {
-        eprintln!(rt; "parts: {LIMIT} bytes came in, and no more are read")?;
-    }
-    Ok(sheet)
 }
 
 // Prints what the engine says of the sheet.
