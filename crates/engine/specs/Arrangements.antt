@@ -1,6 +1,6 @@
--- Arrangements: the seats in blocks, and the blocks in a line. Seats of one block have equal numbers, and an earlier
--- block has the smaller number. An arrangement is written as one code a seat: with b blocks standing, counted
--- from 0, code 2k opens a block before block k (after all of them where k is b), and code 2k + 1 joins block k.
+-- Arrangements: the seats divided into blocks, and the blocks in a line. A block has one number, and numbers grow along
+-- the line. An arrangement is written as one code a seat: while b blocks stand, numbered from 0, the code 2k puts a new
+-- block before block k (or last, where k is b), and 2k + 1 puts the seat into block k.
 use Rattle.std.specs.Prelude.{◌≡◌, ℕ, ◌+◌, ◌*◌, ◌/◌, ◌%◌, ◌<◌, ◌≤◌, Bool, true, if◌then◌else◌, ◌&&◌, ◌⊎◌, List, [], ◌∷◌, ◌++◌, map, length, ℤ, ◌<ℤ◌, ◌==◌, nat_le, slice_index}
 
 abbrev pub opens_block : ℕ → Bool
@@ -47,7 +47,7 @@ pub record EqualInBlocks (rs : List ℕ) (x : ℕ → ℤ) : Type 0 where
   pub same : (p q : ℕ) → p < length rs → q < length rs → slice_index rs p ≡ slice_index rs q → x p ≡ x q
   pub apart : (p q : ℕ) → p < length rs → q < length rs → x p ≡ x q → slice_index rs p ≡ slice_index rs q
 
--- the first of two arrangements is the one with the smaller code where they first differ
+-- lexicographic order: at the first place where the codes differ the earlier arrangement has the smaller one
 abbrev pub Before : List ℕ → List ℕ → Type 0
 Before [] ds = ⊥
 Before (c ∷ cs) [] = ⊥

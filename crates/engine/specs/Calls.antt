@@ -53,7 +53,7 @@ rows_with_mark i b [] = []
 rows_with_mark zero b (m ∷ ms) = record { row = m.row; active = b } ∷ ms
 rows_with_mark (suc i) b (m ∷ ms) = m ∷ rows_with_mark i b ms
 
--- mute and unmute change the mark of one row, and may repeat
+-- mute and unmute set the mark of a row, whatever it was
 abbrev pub on_mark : State → ℕ → Bool → Outcome
 on_mark s i b = attempt s (first_ground ((nat_le (length s.rows) i, NoSuchRow) ∷ []) or_else codes_refusal s) (with_rows s (rows_with_mark i b s.rows))
 

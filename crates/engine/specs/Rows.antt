@@ -1,4 +1,4 @@
--- Rows: their kinds, the terms that they name, and the limits of a bound.
+-- Rows: their kinds, the terms that they name, and whether a bound is within its limits.
 use Rattle.std.specs.Prelude.{ℕ, Bool, false, not, ◌&&◌, ◌||◌, List, neg_ℤ, int_lt, nat_lt}
 use Rattle.sheet.specs.declared.row.Row.{Row}
 use Rattle.sheet.specs.declared.row.Row.TheVariants.{Span, Same, Unlike}

@@ -12,7 +12,7 @@ pub record State : Type 0 where
   pub rows : List Noted
   pub codes : List ℕ
 
--- a new engine holds zero, no row and no code
+-- a new engine: zero is its only term
 abbrev pub new_state : State
 new_state = record { terms = zero_term ∷ []; rows = []; codes = [] }
 

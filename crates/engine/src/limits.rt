@@ -1,4 +1,4 @@
-// How much an engine, a draft and a bench hold at most.
+// How much an engine, a draft and a bench hold at most, and the limits of a bound.
 
 // Terms, zero included.
 pub const MAX_TERMS: usize = 32;

@@ -1,4 +1,4 @@
-// What is asked of rows: the terms that they name, and the limits of a bound.
+// What is asked of rows: the terms that they name, and a bound within its limits.
 ghost use Rattle.std.specs.Prelude.{◌≡◌, ℕ};
 ghost use Rattle.engine.specs.Rows.{bound_past_limit, is_span_on_level, terms_below};
 

@@ -17,7 +17,7 @@ pub struct Report {
     pub text: String,
 }
 
-// Diagnoses the sheet, and puts the diagnosis into lines.
+// Diagnoses the sheet, and puts the diagnosis into lines. Where memory fails nothing is said of what the engine holds then.
 pub(crate) fn report_sheet<E: Dating>(
     heap: Global,
     engine: &mut E,

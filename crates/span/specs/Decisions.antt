@@ -16,7 +16,7 @@ use Rattle.span.specs.Constraints.{constraints}
 abbrev pub constraints_of : State → List Edge
 constraints_of s = constraints s.terms (active_rows s.rows) s.codes
 
--- whether no edge can be lowered any more after as many rounds as there are dated terms. There is a vertex for each term that there can be
+-- whether no edge lowers a distance any more, one round for each dated term done. There is a vertex for each term that there can be
 abbrev pub becomes_stable : List Term → List Row → List ℕ → Bool
 becomes_stable ts rows codes = is_stable (constraints ts rows codes) (after max_terms (length (seats_of ts)) (constraints ts rows codes))
 

@@ -30,7 +30,7 @@ impl Span {
     }
 
     // Whether some numbers fit the active span rows and the codes placed. There are none exactly when the graph of the constraints has
-    // a negative cycle, and exactly when some edge can still be lowered after as many rounds as there are dated terms.
+    // a negative cycle, and exactly when an edge still lowers a distance once a round was made for each dated term.
     pub fn is_consistent(&self) -> bool
         ensures decision { DecisionOf (state_in self.now) result }
         ensures exact { IsTrue result ↔ Completion SpanAllowed (state_in self.now) }
@@ -39,7 +39,7 @@ impl Span {
         stable
     }
 
-    // The distance of each term after as many rounds as there are dated terms, and whether no edge can lower one any more.
+    // The distance of each term after these rounds, and whether no edge can lower one any more.
     pub(crate) fn relax_terms(&self) -> (bool, [i64; 32])
         ensures stable { result.0 ≡ becomes_stable_of (state_in self.now) }
         ensures distances { result.1 ≡ distances_of (state_in self.now) }
