@@ -18,10 +18,13 @@ pub trait Dating: Engine {
 
     // The number of each seat, in the order of the seats, and 0 at each place that is left.
     fn dates(&self) -> Result<[i64; 8], Fault>
-        ensures { MatchResult result
-            (λ d. Dated (Self.rule (Self.setting self.now)) (Self.state self.now) counts (picks (Self.setting self.now)) d)
-            (λ e. Undated (Self.rule (Self.setting self.now)) (Self.state self.now) Self.LETTER e) };
+        ensures { let rule = Self.rule (Self.setting self.now) in
+            let state = Self.state self.now in
+            MatchResult result
+            (λ dates. Dated rule state counts (picks (Self.setting self.now)) dates)
+            (λ fault. Undated rule state Self.LETTER fault) };
 
     // there is only one choice of them
-    ghost once: { (n : ℕ) (ts : List Term) (rows : List Row) (codes : List ℕ) (a b : List ℤ) → picks n ts rows codes a → picks n ts rows codes b → a ≡ b };
+    ghost once: { (n : ℕ) (ts : List Term) (rows : List Row) (codes : List ℕ) (a b : List ℤ) →
+        picks n ts rows codes a → picks n ts rows codes b → a ≡ b };
 }

@@ -83,5 +83,6 @@ pub trait Engine {
     ghost own_letter: { IsTrue (is_engine_letter LETTER) };
 
     // what is allowed stays allowed when an active row is left out
-    ghost fewer: { (n : ℕ) (ts : List Term) (front back : List Row) (r : Row) (codes : List ℕ) → rule n ts (front ++ r ∷ back) codes → rule n ts (front ++ back) codes };
+    ghost fewer: { (n : ℕ) (ts : List Term) (front back : List Row) (r : Row) (codes : List ℕ) →
+        rule n ts (front ++ r ∷ back) codes → rule n ts (front ++ back) codes };
 }

@@ -31,7 +31,8 @@ pub(crate) fn diagnose<E: Dating>(
     requires seat_room { 8 ≤ vec_capacity seats }
     requires no_codes { codes.items ≡ [] }
     requires code_room { 8 ≤ vec_capacity codes }
-    ensures tells { Diagnosed (E.rule (E.setting engine.old)) E.counts (E.picks (E.setting engine.old)) E.LETTER sheet.now (E.state engine.new) result }
+    ensures tells { let made_with = E.setting engine.old in
+        Diagnosed (E.rule made_with) E.counts (E.picks made_with) E.LETTER sheet.now (E.state engine.new) result }
     ensures keeps { E.setting engine.new ≡ E.setting engine.old }
 {
     match note_sheet(engine, sheet, &mut seats) {

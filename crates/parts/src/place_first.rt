@@ -29,7 +29,8 @@ pub(crate) fn place_least<E: Engine>(engine: &mut E) -> Option<u8>
 pub(crate) fn place_first<E: Engine>(engine: &mut E, codes: &mut Vec<u8>) -> bool
     requires few { length (seats_of (E.state engine.old).terms) ≤ 8 }
     requires room { vec_len codes.old + 8 ≤ vec_capacity codes.old }
-    ensures places { FirstPlaced (E.rule (E.setting engine.old)) (E.state engine.old) (E.state engine.new) codes.old.items codes.new.items result }
+    ensures places { FirstPlaced (E.rule (E.setting engine.old)) (E.state engine.old) (E.state engine.new)
+        codes.old.items codes.new.items result }
     ensures keeps { E.setting engine.new ≡ E.setting engine.old }
 {
     if !engine.open() {

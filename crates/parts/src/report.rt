@@ -24,9 +24,13 @@ pub(crate) fn report_sheet<E: Dating>(
     sheet: &[u8],
 ) -> Result<Report, AllocError>
     ensures keeps { E.setting engine.new ≡ E.setting engine.old }
-    ensures tells { IfOk result (λ p. Diagnosed (E.rule (E.setting engine.old)) E.counts (E.picks (E.setting engine.old)) E.LETTER sheet.now (E.state engine.new) p.diagnosis) }
-    ensures lists { IfOk result (λ p. string_bytes p.text ≡ report_of p.diagnosis) }
-    ensures only { IfOk result (λ p. OnlyReport (E.rule (E.setting engine.old)) E.counts (E.picks (E.setting engine.old)) E.LETTER sheet.now (string_bytes p.text)) }
+    ensures tells { let made_with = E.setting engine.old in
+        IfOk result (λ report.
+        Diagnosed (E.rule made_with) E.counts (E.picks made_with) E.LETTER sheet.now (E.state engine.new) report.diagnosis) }
+    ensures lists { IfOk result (λ report. string_bytes report.text ≡ report_of report.diagnosis) }
+    ensures only { let made_with = E.setting engine.old in
+        IfOk result (λ report.
+        OnlyReport (E.rule made_with) E.counts (E.picks made_with) E.LETTER sheet.now (string_bytes report.text)) }
 {
     let seats = match Vec::with_capacity(heap, MAX_SEATS) {
         Ok(seats) => seats,
@@ -74,7 +78,8 @@ fn list_seats(
 ) -> Result<String, AllocError>
     requires alike { length codes.now ≡ length seats.now }
     requires few { length codes.now ≤ 8 }
-    ensures { IfOk result (λ text. string_bytes text ≡ seat_lines codes.now seats.now dates.now (length codes.now)) }
+    ensures { IfOk result (λ text.
+        string_bytes text ≡ seat_lines codes.now seats.now dates.now (length codes.now)) }
 {
     let mut text = String::new(heap);
     for place in 0..codes.len() {

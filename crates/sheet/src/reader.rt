@@ -15,7 +15,9 @@ pub fn read_field(sheet: &[u8]) -> (Result<Field<'_>, Fault>, &[u8])
     ensures rest { result.1.now ≡ remaining sheet.now }
     ensures sound { ReadRight sheet.now (outcome result.0) }
     ensures complete { ReadsAll sheet.now (outcome result.0) }
-    ensures used { MatchResult result.0 (λ _. length result.1.now + (3 + stated_length sheet.now) ≡ length sheet.now) (λ _. result.1.now ≡ sheet.now) }
+    ensures used { MatchResult result.0
+        (λ _. length result.1.now + (3 + stated_length sheet.now) ≡ length sheet.now)
+        (λ _. result.1.now ≡ sheet.now) }
 {
     read_front(sheet)
 }
