@@ -1,13 +1,12 @@
 -- A walk over the fields of a sheet, one field at a time.
-use Rattle.std.proofs.Common.{◌≡◌, ℕ, ◌+◌, ◌-◌, ◌≤◌, List, [], ◌∷◌, ◌++◌, length, take, drop, Ok, Result, sym, refl, ap, ◌∙◌, subst, arith, take-add, MatchResult}
+use Rattle.std.proofs.Common.{◌≡◌, ℕ, ◌+◌, ◌-◌, ◌≤◌, List, [], ◌∷◌, ◌++◌, length, take, drop, Ok, sym, refl, ap, ◌∙◌, subst, arith, take-add}
 use borrow.Rule.Slice.PartMut.{put_mid}
-use Rattle.std.proofs.lemmas.List.{append_assoc, drop-drop, length-append, length-drop, length-take, length-take-le, nil_from_length, take_all, take_at}
+use Rattle.std.proofs.lemmas.List.{append_assoc, length-append, length-drop, length-take, length-take-le, nil_from_length, take_all, take_at}
 use Rattle.sheet.specs.declared.fault.Fault.{Fault}
-use Rattle.sheet.specs.declared.field.Field.{Field}
 use Rattle.sheet.specs.Encoding.{Written, encode}
-use Rattle.sheet.specs.Fields.{FieldValue, value_of}
-use Rattle.sheet.specs.Parsing.{outcome, parse, remaining, rest_after, stated_length}
-use Rattle.sheet.specs.RoundTrips.{ReadRight, WrittenAgain}
+use Rattle.sheet.specs.Fields.{FieldValue}
+use Rattle.sheet.specs.Parsing.{stated_length}
+use Rattle.sheet.proofs.Taking.{IsLeft, Took, left_after, left_at_start}
 use Rattle.fieldlist.specs.WritingBack.{Alike, Front, none, more}
 
 -- t is left of s after n fields
@@ -16,28 +15,10 @@ pub record Walked (s t : List ℕ) (n : ℕ) : Type 0 where
   pub front : Front s fields t
   pub count : n ≡ length fields
   pub long : n + length t ≤ length s
-  pub place : t ≡ drop (length s - length t) s
+  pub place : IsLeft s t
 
 pub start : (s : List ℕ) → Walked s s 0
-start s =
-    let z : 0 ≡ length s - length s = omega arith in
-    record { fields = []; front = none; count = refl; long = omega arith; place = ap (λ n. drop n s) z }
-
--- the field f was read from the front of t, and u is left
-pub record Took (t : List ℕ) (f : FieldValue) (u : List ℕ) : Type 0 where
-  pub read : parse t ≡ Ok f
-  pub rest : u ≡ remaining t
-  pub used : length u + (3 + stated_length t) ≡ length t
-  pub again : WrittenAgain t f (3 + stated_length t)
-
--- from what the reader promises
-pub took : (t u : List ℕ) (r : Result Field Fault) (field : Field) → r ≡ Ok field → outcome r ≡ parse t → u ≡ remaining t → ReadRight t (outcome r) → MatchResult r (λ _. length u + (3 + stated_length t) ≡ length t) (λ _. u ≡ t) → Took t (value_of field) u
-took t u r field is answer rest sound used = record {
-  read = sym answer ∙ ap outcome is;
-  rest = rest;
-  used = subst (λ x. MatchResult x (λ _. length u + (3 + stated_length t) ≡ length t) (λ _. u ≡ t)) is used;
-  again = (subst (λ x. ReadRight t (outcome x)) is sound).1;
-}
+start s = record { fields = []; front = none; count = refl; long = omega arith; place = left_at_start s }
 
 -- one field more
 pub step : (s t u : List ℕ) (n m : ℕ) (f : FieldValue) → Walked s t n → Took t f u → m ≡ n + 1 → Walked s u m
@@ -45,16 +26,12 @@ step s t u n m f w k more-one =
     let long = w.long in
     let count = w.count in
     let used = k.used in
-    let size = 3 + stated_length t in
-    let p = length s - length t in
-    let sum : p + size ≡ length s - length u = omega arith in
-    let ends : u ≡ drop size t = k.rest ∙ ap (λ r. rest_after r t) k.read in
     record {
       fields = f ∷ w.fields;
       front = subst (λ x. Front s (f ∷ w.fields) x) (sym k.rest) (more w.front k.read);
       count = omega arith;
       long = omega arith;
-      place = ends ∙ ap (drop size) w.place ∙ drop-drop size p s ∙ ap (λ x. drop x s) sum;
+      place = left_after s t u f (omega arith) w.place k;
     }
 
 -- written again with room for it, it is found alike

@@ -1,10 +1,10 @@
 -- A walk over the fields of a sheet, each noted in an engine.
-use Rattle.std.proofs.Common.{◌≡◌, ℕ, ◌+◌, ◌-◌, ◌<◌, ◌≤◌, Bool, true, false, cond, List, [], ◌∷◌, ◌++◌, length, drop, Ok, Err, Result, sym, refl, ap, ◌∙◌, subst, arith, length-append, MatchResult}
-use Rattle.std.proofs.lemmas.List.{drop-drop, nil_from_length}
+use Rattle.std.proofs.Common.{◌≡◌, ℕ, ◌+◌, ◌-◌, ◌<◌, ◌≤◌, Bool, true, false, cond, List, [], ◌∷◌, ◌++◌, length, Ok, Err, Result, sym, refl, ap, ◌∙◌, subst, arith, length-append}
+use Rattle.std.proofs.lemmas.List.{nil_from_length}
 use Rattle.sheet.specs.declared.fault.Fault.{Fault}
-use Rattle.sheet.specs.declared.field.Field.{Field}
-use Rattle.sheet.specs.Fields.{FieldValue, value_of}
-use Rattle.sheet.specs.Parsing.{outcome, parse, remaining, rest_after, stated_length}
+use Rattle.sheet.specs.Fields.{FieldValue}
+use Rattle.sheet.specs.Parsing.{parse}
+use Rattle.sheet.proofs.Taking.{IsLeft, Took, left_after, left_at_start}
 use Rattle.engine.specs.States.{State, new_state}
 use Rattle.engine.specs.Terms.{seats_of}
 use Rattle.parts.specs.declared.note_sheet.Refusal.{Refusal}
@@ -16,36 +16,21 @@ pub sound : {letter : ℕ} {sheet : List ℕ} {s : State} {left : List ℕ} → 
 sound none = record { few = omega arith; short = omega arith; bare = refl }
 sound {letter = letter} (more {s = t} {f = f} w read ok) = (accepted letter t f (sound w) ok).sound
 
--- the field f was read from the front of t, and u is left
-pub record Took (t : List ℕ) (f : FieldValue) (u : List ℕ) : Type 0 where
-  pub read : parse t ≡ Ok f
-  pub rest : u ≡ remaining t
-  pub used : length u + (3 + stated_length t) ≡ length t
-
--- from what the reader promises
-pub took : (t u : List ℕ) (r : Result Field Fault) (field : Field) → r ≡ Ok field → outcome r ≡ parse t → u ≡ remaining t → MatchResult r (λ _. length u + (3 + stated_length t) ≡ length t) (λ _. u ≡ t) → Took t (value_of field) u
-took t u r field is answer rest used = record {
-  read = sym answer ∙ ap outcome is;
-  rest = rest;
-  used = subst (λ x. MatchResult x (λ _. length u + (3 + stated_length t) ≡ length t) (λ _. u ≡ t)) is used;
-}
-
 -- t is left of the sheet s: the engine holds the state q, and the counts and the list of seats say so
 pub record Walked (letter : ℕ) (s t : List ℕ) (q : State) (terms : ℕ) (rowed : Bool) (seats : List ℕ) : Type 0 where
   pub walk : FieldsNoted letter s q t
   pub long : length t ≤ length s
-  pub place : t ≡ drop (length s - length t) s
+  pub place : IsLeft s t
   pub count : terms ≡ length q.terms
   pub rows : rowed ≡ row_stands q
   pub listed : seats ≡ seats_of q.terms
 
 pub start : (letter : ℕ) (s : List ℕ) (q : State) (seats : List ℕ) → q ≡ new_state → seats ≡ 0 ∷ [] → Walked letter s s q 1 false seats
 start letter s q seats e listed =
-    let z : 0 ≡ length s - length s = omega arith in
     record {
       walk = subst (λ x. FieldsNoted letter s x s) (sym e) none;
       long = omega arith;
-      place = ap (λ n. drop n s) z;
+      place = left_at_start s;
       count = ap (λ (x : State). length x.terms) (sym e);
       rows = ap row_stands (sym e);
       listed = listed ∙ ap (λ (x : State). seats_of x.terms) (sym e);
@@ -71,13 +56,10 @@ module _ (letter : ℕ) (s t : List ℕ) (q : State) (terms : ℕ) (rowed : Bool
     step u p terms' rowed' seats' k e counted row listed =
         let used = k.used in
         let long = w.long in
-        let size = 3 + stated_length t in
-        let sum : length s - length t + size ≡ length s - length u = omega arith in
-        let ends : u ≡ drop size t = k.rest ∙ ap (λ r. rest_after r t) k.read in
         record {
           walk = subst (λ x. FieldsNoted letter s x u) (sym e) (subst (FieldsNoted letter s (after_field q f)) (sym k.rest) (more w.walk k.read (sym ok)));
           long = omega arith;
-          place = ends ∙ ap (drop size) w.place ∙ drop-drop size (length s - length t) s ∙ ap (λ x. drop x s) sum;
+          place = left_after s t u f w.long w.place k;
           count = counted ∙ ap (λ n. n + cond (is_row f) 0 1) w.count ∙ sym now_accepted.counted ∙ ap (λ (x : State). length x.terms) (sym e);
           rows = row ∙ sym now_accepted.rows ∙ ap row_stands (sym e);
           listed = listed ∙ sym seats_then ∙ ap (λ (x : State). seats_of x.terms) (sym e);

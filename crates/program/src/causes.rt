@@ -1,8 +1,13 @@
 // Grounds of a refusal in words, for a person.
+ghost use Rattle.std.specs.Prelude.{◌≡◌};
+ghost use Rattle.program.specs.Words.{words_of};
+
 use sheet::fault::Cause;
 
 // Why a field of a sheet is refused. The other grounds cannot come up for a sheet.
-pub fn cause_in_words(cause: Cause) -> &'static str {
+pub fn cause_in_words(cause: Cause) -> &'static str
+    ensures { result.now ≡ words_of cause }
+{
     match cause {
         Cause::CutShort => "the bytes that were read end before the field does",
         Cause::UnknownTag => "its tag is none of the letters T, S, E and U",

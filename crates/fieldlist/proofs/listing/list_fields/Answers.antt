@@ -4,10 +4,10 @@ use Rattle.std.proofs.lemmas.Slice.{pushed}
 use Rattle.sheet.specs.declared.fault.Cause.TheVariants.{CutShort}
 use Rattle.sheet.specs.Causes.{fault_in, reader_letter}
 use Rattle.sheet.specs.Fields.{value_of}
+use Rattle.sheet.proofs.Taking.{took}
 use Rattle.sheet.specs.Parsing.{parse}
 use Rattle.fieldlist.specs.Listing.{Lines, is_term, none}
 use Rattle.fieldlist.proofs.Numbering.{lines_more}
-use Rattle.fieldlist.proofs.Walking.{took}
 use Rattle.fieldlist.proofs.listing.list_fields.Goals as goal
 use Rattle.fieldlist.proofs.listing.list_fields.Goals.{then-is_term, else-is_term}
 

@@ -2,7 +2,8 @@ use Rattle.std.proofs.Common.{◌≡◌, ◌+◌, ◌-◌, ◌≤◌, length, ta
 use Rattle.std.proofs.lemmas.List.{length-drop, length-take, take_rest}
 use Rattle.std.proofs.lemmas.Bool.{both_ways}
 use Rattle.sheet.specs.Fields.{value_of}
-use Rattle.fieldlist.proofs.Walking.{start, took, step, alike, copy, whole, all_copied, none_copied}
+use Rattle.sheet.proofs.Taking.{took}
+use Rattle.fieldlist.proofs.Walking.{start, step, alike, copy, whole, all_copied, none_copied}
 use Rattle.fieldlist.proofs.write_back.write_fields_back.Goals as goal
 
 pub loop-rest-init : goal.loop-rest-init

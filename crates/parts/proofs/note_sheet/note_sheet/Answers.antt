@@ -2,7 +2,8 @@ use Rattle.std.proofs.Common.{◌≡◌, ◌+◌, ◌≤◌, [], ◌∷◌, leng
 use Rattle.sheet.specs.Fields.{value_of}
 use Rattle.sheet.specs.Parsing.{outcome, parse}
 use Rattle.parts.specs.Noting.{front_answer, is_row}
-use Rattle.parts.proofs.Walking.{first_listed, refused, room, row_counts, short, start, step, term_counts, took, whole}
+use Rattle.sheet.proofs.Taking.{took}
+use Rattle.parts.proofs.Walking.{first_listed, refused, room, row_counts, short, start, step, term_counts, whole}
 use Rattle.parts.proofs.note_sheet.note_sheet.Goals as goal
 
 pub loop-rest-init : goal.loop-rest-init
@@ -37,7 +38,7 @@ loop-rest-preserved g c =
     let u = c.read_field.result.1.now in
     let e = c.read_field.ensures in
     let v = value_of c.in-Ok.field in
-    let k = took t u c.read_field.result.0 c.in-Ok.field c.in-Ok.is e.answer e.rest e.used in
+    let k = took t u c.read_field.result.0 c.in-Ok.field c.in-Ok.is e.answer e.rest e.sound e.used in
     let row = c.is_row-has_row.ensures in
     let cap = c.loop-rest.invariant.2 in (
       step f.LETTER c.args.sheet.now t (f.state c.loop-rest.engine) c.loop-rest.terms c.loop-rest.has_row (vec_items c.loop-rest.seats) c.loop-rest.invariant.0 v c.in-Ok-note_field.ensures.answers u (f.state c.note_field.new.engine) c.loop-rest.terms c.is_row-has_row.result (vec_items c.list_seat.new.seats) k c.note_field.ensures.leaves (row_counts c.loop-rest.terms (is_row v) (sym row ∙ c.if-not-has_row.false)) row c.list_seat.ensures.items,
@@ -52,7 +53,7 @@ loop-rest-preserved-then-not-has_row g c =
     let u = c.read_field.result.1.now in
     let e = c.read_field.ensures in
     let v = value_of c.in-Ok.field in
-    let k = took t u c.read_field.result.0 c.in-Ok.field c.in-Ok.is e.answer e.rest e.used in
+    let k = took t u c.read_field.result.0 c.in-Ok.field c.in-Ok.is e.answer e.rest e.sound e.used in
     let row = c.is_row-has_row.ensures in
     let cap = c.loop-rest.invariant.2 in (
       step f.LETTER c.args.sheet.now t (f.state c.loop-rest.engine) c.loop-rest.terms c.loop-rest.has_row (vec_items c.loop-rest.seats) c.loop-rest.invariant.0 v c.in-Ok-note_field.ensures.answers u (f.state c.note_field.new.engine) (c.loop-rest.terms + 1) c.is_row-has_row.result (vec_items c.list_seat.new.seats) k c.note_field.ensures.leaves (term_counts c.loop-rest.terms (is_row v) (sym row ∙ c.if-not-has_row.true)) row c.list_seat.ensures.items,
