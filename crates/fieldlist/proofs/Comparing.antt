@@ -11,8 +11,8 @@ tells w bytes after size r answer held fits test =
     let z : size - 0 ≡ size = omega arith in
     let far : length after ≡ length w.buffer = ap length held in
     let long : length (take (size - 0) after) ≡ size = simp length-take (omega arith) in (
-      λ yes-it-is.
-          let same : take (size - 0) after ≡ bytes = test.0 yes-it-is in
+      λ yes_it_is.
+          let same : take (size - 0) after ≡ bytes = test.0 yes_it_is in
           let n : size ≡ length bytes = sym long ∙ ap length same in
           (sym answer ∙ ap Ok n, (λ i. take (sym n i) (sym held i)) ∙ ap (λ m. take m after) (sym z) ∙ same),
       λ alike.

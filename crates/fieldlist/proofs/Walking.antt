@@ -22,7 +22,7 @@ start s = record { fields = []; front = none; count = refl; long = omega arith; 
 
 -- one field more
 pub step : (s t u : List ℕ) (n m : ℕ) (f : FieldValue) → Walked s t n → Took t f u → m ≡ n + 1 → Walked s u m
-step s t u n m f w k more-one =
+step s t u n m f w k more_one =
     let long = w.long in
     let count = w.count in
     let used = k.used in

@@ -36,9 +36,9 @@ module _ (rule : List Term → List Row → List ℕ → Type 0) (s t : State) (
 
   module _ (counts : RowKind → Bool) (picks : List Term → List Row → List ℕ → List ℤ → Type 0) (letter : ℕ) (sheet seats : List ℕ) (n : WholeNoted letter sheet s seats) where
     pub met : (dates : List ℤ) → held ≡ [] → FirstPlaced rule s t held codes true → Dated rule t counts picks dates → MetBy rule counts picks letter sheet t codes seats dates
-    met dates none-held p d =
+    met dates none_held p d =
         let bare : s.codes ≡ [] = (sound n.walk).bare in
-        let same : p.0 ≡ codes = sym (p.3 ∙ ap (λ ds. ds ++ p.0) none-held) in
+        let same : p.0 ≡ codes = sym (p.3 ∙ ap (λ ds. ds ++ p.0) none_held) in
         let ends : t ≡ with_codes s codes = p.2 ∙ ap (λ ds. with_codes s (ds ++ p.0)) bare ∙ ap (with_codes s) same in
         record {
           noted = s;

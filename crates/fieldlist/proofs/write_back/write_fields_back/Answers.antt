@@ -43,8 +43,8 @@ loop-rest-preserved c =
     let long = c.loop-rest.invariant.0.long in
     let same = c.loop-rest.invariant.3.long in
     let room : length t - length u - 0 ≤ length (take (length b - p) (drop p b)) = simp (length-take, length-drop) (omega arith) in
-    let yes-it-is = c.is_written_alike.ensures.compares.1 (alike t u (take (length b - p) (drop p b)) (value_of c.in-Ok.field) (length t - length u - 0) k (omega arith) room) in
-    absurd (both_ways c.is_written_alike.result c.if-is_written_alike.false yes-it-is)
+    let yes_it_is = c.is_written_alike.ensures.compares.1 (alike t u (take (length b - p) (drop p b)) (value_of c.in-Ok.field) (length t - length u - 0) k (omega arith) room) in
+    absurd (both_ways c.is_written_alike.result c.if-is_written_alike.false yes_it_is)
 
 pub returns : goal.returns
 returns c =

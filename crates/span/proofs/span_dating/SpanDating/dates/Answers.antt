@@ -23,9 +23,9 @@ returns-then-codes-seats c =
           elim c.then-codes-seats.either [
             | inl few ↦ omega arith
             | inr both ↦
-                let no-round = sym c.relax_terms-stable.ensures.stable ∙ both.1 in
+                let no_round = sym c.relax_terms-stable.ensures.stable ∙ both.1 in
                 let v = begun s k in
-                (decided s.terms s.rows s.codes (bounds h).terms h.rows_fit (bounds h).placed).unsolved no-round v.0 v.1
+                (decided s.terms s.rows s.codes (bounds h).terms h.rows_fit (bounds h).placed).unsolved no_round v.0 v.1
           ];
       answered = c.in_layer.ensures;
     }
