@@ -1,4 +1,4 @@
-// Fields, endings and refusals in words.
+// Fields and endings in words.
 ghost use Rattle.fieldlist.specs.Lines.{field_line, last_line, text_of_label, words_of_form, words_of_kind, words_of_row};
 ghost use Rattle.sheet.specs.Fields.{value_of};
 ghost use Rattle.std.specs.Prelude.{Some};
