@@ -1,15 +1,15 @@
 -- Codes: how high one can be, and what comes before one code more.
-use Rattle.std.proofs.Common.{◌≡◌, ℕ, ◌+◌, ◌*◌, ◌<◌, ◌≤◌, Bool, true, false, cond, leb, ◌⊎◌, List, [], ◌∷◌, ◌++◌, length, refl, ap, ◌∙◌, inl, inr, ⊎_elim, arith}
+use Rattle.std.proofs.Common.{◌≡◌, ℕ, ◌+◌, ◌*◌, ◌<◌, ◌≤◌, true, cond, leb, ◌⊎◌, List, [], ◌∷◌, ◌++◌, length, count_by, sym, refl, ap, ◌∙◌, inl, inr, ⊎_elim, arith}
+use Rattle.std.proofs.lemmas.List.Recursion.{is_sum_by}
+use Rattle.std.proofs.lemmas.List.Sums.{count_by-le-length}
 use Rattle.std.proofs.lemmas.Bool.{and_parts, leb-true}
 use Rattle.engine.specs.Arrangements.{Before, blocks, is_valid, opens_block}
 
-opens_le : (b : Bool) → cond b 1 0 ≤ 1
-opens_le true = omega arith
-opens_le false = omega arith
+pub blocks_counted : (cs : List ℕ) → count_by opens_block cs ≡ blocks cs
+blocks_counted cs = sym (is_sum_by blocks (λ c. cond (opens_block c) 1 0) refl (λ _ _. refl) cs)
 
 pub blocks_le : (cs : List ℕ) → blocks cs ≤ length cs
-blocks_le [] = omega arith
-blocks_le (c ∷ cs) = let h = blocks_le cs in let m = opens_le (opens_block c) in omega arith
+blocks_le cs = omega (arith, blocks_counted cs, count_by-le-length opens_block cs)
 
 pub valid_low : (b : ℕ) (cs : List ℕ) (d : ℕ) (r : List ℕ) → is_valid b (cs ++ (d ∷ r)) ≡ true → d ≤ 2 * (b + blocks cs)
 valid_low b [] d r h = let l = leb-true d (2 * b) (and_parts (leb d (2 * b)) (is_valid (b + cond (opens_block d) 1 0) r) h).0 in omega arith

@@ -1,6 +1,7 @@
 -- Laws of the rules and of the dates, which engines answer to their interfaces.
-use Rattle.std.specs.Prelude.{◌≡◌, ℕ, suc, ◌<◌, List, [], ◌∷◌, ◌++◌, length, ℤ, pos, ◌-ℤ◌, ◌≤ℤ◌, slice_index_or, All, refl}
+use Rattle.std.specs.Prelude.{◌≡◌, ℕ, ◌<◌, List, [], ◌∷◌, ◌++◌, length, ℤ, pos, ◌-ℤ◌, ◌≤ℤ◌, All}
 use Rattle.std.proofs.Common.{sym, ◌∙◌, arith}
+use Rattle.std.proofs.lemmas.List.{ext_get_or}
 use Rattle.std.proofs.lemmas.List.Elements.{All-cons, All-head, All-tail}
 use Rattle.std.proofs.lemmas.Int.{ints}
 use Rattle.sheet.specs.declared.row.Row.{Row}
@@ -16,16 +17,6 @@ all_without P (y ∷ front) back x a = All-cons P y (front ++ back) (All-head P 
 -- what is allowed stays allowed when a row is left out
 pub span_rule_without : (ts : List Term) (front back : List Row) (r : Row) (codes : List ℕ) → SpanAllowed ts (front ++ r ∷ back) codes → SpanAllowed ts (front ++ back) codes
 span_rule_without ts front back r codes (v, f) = (v, record { hold = all_without (SpanHolds v) front back r f.hold; ordered = f.ordered })
-
--- lists of one length that agree at each place are equal
-same_lists : (xs ys : List ℤ) → length xs ≡ length ys → ((p : ℕ) → p < length xs → slice_index_or xs p (pos 0) ≡ slice_index_or ys p (pos 0)) → xs ≡ ys
-same_lists [] [] l e = refl
-same_lists [] (y ∷ ys) l e = absurd (omega arith)
-same_lists (x ∷ xs) [] l e = absurd (omega arith)
-same_lists (x ∷ xs) (y ∷ ys) l e =
-    let first : x ≡ y = e 0 (omega arith) in
-    let rest : xs ≡ ys = same_lists xs ys (omega arith) (λ p i. e (suc p) (omega arith)) in
-    λ k. first k ∷ rest k
 
 -- a greatest number is not above another
 not_above : (ts : List Term) (rows : List Row) (codes : List ℕ) (g h : ℕ → ℤ) → Greatest ts rows codes g → Greatest ts rows codes h → (p : ℕ) → p < length (seats_of ts) → g p ≤ℤ h p
@@ -44,7 +35,7 @@ same_greatest_dates ts rows codes a b x y =
     let u : x.numbers p ≤ℤ y.numbers p = not_above ts rows codes x.numbers y.numbers x.greatest y.greatest p i in
     let w : y.numbers p ≤ℤ x.numbers p = not_above ts rows codes y.numbers x.numbers y.greatest x.greatest p i in
     omega (arith, ints) in
-    same_lists a b (omega arith) (λ p i.
+    ext_get_or (pos 0) a b (omega arith) (λ p i.
     let j : p < length (seats_of ts) = omega arith in
     let z : 0 < length (seats_of ts) = omega arith in
     x.from_zero p j ∙ (λ k. same p j k -ℤ same 0 z k) ∙ sym (y.from_zero p j))

@@ -1,10 +1,9 @@
+pub mod Answering
 pub mod Bounds
 pub mod Codes
-mod Counting
-pub mod Filling
 pub mod Fitting
 pub mod Following
-mod RankArrays
+mod LowRanks
 pub mod Ranks
 pub mod Seats
 pub mod Using

@@ -1,6 +1,7 @@
 -- Ranks: what a code more does to them, which codes are valid, and which blocks have a seat.
-use Rattle.std.proofs.Common.{◌≡◌, ℕ, ◌+◌, ◌-◌, ◌*◌, ◌/◌, ◌%◌, ◌<◌, ◌≤◌, true, cond, leb, ◌⊎◌, List, [], ◌∷◌, ◌++◌, map, length, get_or, sym, refl, ap, ◌∙◌, subst, inl, inr, add-zero, add_assoc, zero-add, arith}
-use Rattle.std.proofs.lemmas.List.{get_or_append_left, get_or-map, get_or_push, length-map, length_push}
+use Rattle.std.proofs.Common.{◌≡◌, ℕ, ◌+◌, ◌-◌, ◌*◌, ◌/◌, ◌%◌, ◌<◌, ◌≤◌, true, cond, leb, ◌⊎◌, List, [], ◌∷◌, ◌++◌, map, length, get_or, take, drop, sym, refl, ap, ◌∙◌, subst, inl, inr, add-zero, add_assoc, zero-add, arith}
+use Rattle.std.proofs.lemmas.List.{take-append-drop, get_or_append_left, get_or-map, get_or_push, length-map, length_push}
+use Rattle.std.proofs.lemmas.Bool.Decides.{nat_tests}
 use Rattle.std.proofs.lemmas.Bool.{and_from, and_parts, cases_eq, cases_lt, cases_order, cond-false, cond-true, eq-eqb, le-leb, leb-true, lt-leb, ne_eqb}
 use Rattle.engine.specs.Arrangements.{opens_block, blocks, is_valid, rank_after, ranks_with, ranks_from, ranks}
 
@@ -23,11 +24,7 @@ pub with_joins : (rs : List ℕ) (c : ℕ) → (c % 2 ≡ 0 → ⊥) → ranks_w
 with_joins rs c e = ap (λ (ys : List ℕ). ys ++ (c / 2) ∷ []) (cond-false (opens_block c) (map (rank_after (c / 2)) rs) rs (ne_eqb (c % 2) 0 e))
 
 pub length_with : (rs : List ℕ) (c : ℕ) → length (ranks_with rs c) ≡ length rs + 1
-length_with rs c =
-    elim (cases_eq (c % 2) 0) [
-      | inl e ↦ ap length (with_opens rs c e) ∙ (length_push (map (rank_after (c / 2)) rs) (c / 2) ∙ ap (λ (n : ℕ). n + 1) (length-map rs (rank_after (c / 2))))
-      | inr e ↦ ap length (with_joins rs c e) ∙ length_push rs (c / 2)
-    ]
+length_with rs c = let m = length-map rs (rank_after (c / 2)) in grind (arith, nat_tests, length_push {X = ℕ})
 
 pub length_from : (rs cs : List ℕ) → length (ranks_from rs cs) ≡ length rs + length cs
 length_from rs [] = omega arith
@@ -132,6 +129,12 @@ valid_append b (c ∷ cs) ds h k =
     let o : ℕ = cond (opens_block c) 1 0 in
     valid_cons b c (cs ++ ds) (valid_first b c cs h)
     (valid_append (b + o) cs ds (valid_rest b c cs h) (subst (λ (n : ℕ). is_valid n ds ≡ true) (sym (add_assoc b o (blocks cs))) k))
+
+pub valid_push : (cs : List ℕ) (c : ℕ) → is_valid 0 cs ≡ true → c ≤ 2 * blocks cs → is_valid 0 (cs ++ c ∷ []) ≡ true
+valid_push cs c h l = valid_append 0 cs (c ∷ []) h (valid_cons (0 + blocks cs) c [] (omega arith) refl)
+
+pub valid_take : (n : ℕ) (cs : List ℕ) → is_valid 0 cs ≡ true → is_valid 0 (take n cs) ≡ true
+valid_take n cs h = valid_front 0 (take n cs) (drop n cs) (ap (is_valid 0) (take-append-drop n cs) ∙ h)
 
 -- b blocks stand, and each has a seat
 pub record HasBlocks (b : ℕ) (rs : List ℕ) : Type 0 where

@@ -1,16 +1,14 @@
 -- What a client of an engine reads off a call's outcome.
-use Rattle.std.proofs.Common.{◌≡◌, ℕ, ◌-◌, ◌*◌, ◌<◌, ◌≤◌, Bool, true, false, cond, eqb, ltb, leb, List, [], ◌∷◌, ◌++◌, length, Some, None, Ok, Err, Option, sym, refl, ap, ◌∙◌, arith}
+use Rattle.std.proofs.Common.{◌≡◌, ℕ, ◌-◌, ◌*◌, ◌<◌, ◌≤◌, List, [], ◌∷◌, ◌++◌, length, Some, None, Ok, Err, Option, sym, refl, ap, arith}
 use Rattle.std.proofs.lemmas.List.{length_push, take_at}
-use Rattle.std.proofs.lemmas.Bool.{leb-false, lt-leb, ltb-false, ltb-true, ne_eqb}
+use Rattle.std.proofs.lemmas.Bool.Decides.{nat_tests}
 use Rattle.sheet.specs.declared.fault.Cause.{Cause}
-use Rattle.sheet.specs.declared.fault.Cause.TheVariants.{CodeTooHigh, EverySeatPlaced, NoCodeToLift}
 use Rattle.sheet.specs.declared.fault.Fault.{Fault}
 use Rattle.engine.specs.Arrangements.{blocks}
 use Rattle.engine.specs.Calls.{on_lift, on_place, unless_refused, without_last}
-use Rattle.engine.specs.Refusals.{answer_in, first_ground}
-use Rattle.engine.specs.States.{State, with_code, with_codes}
+use Rattle.engine.specs.Refusals.{answer_in}
+use Rattle.engine.specs.States.{State, with_code}
 use Rattle.engine.specs.Terms.{seats_of}
-use Rattle.engine.proofs.Fitting.{none_holds}
 
 -- an answer tells whether the call was refused, and why
 pub accepted_is : (letter : ℕ) (o : Option Cause) (u : Unit {0}) → Ok u ≡ answer_in letter o → o ≡ None
@@ -33,25 +31,11 @@ without_last_push xs x = take_at xs (x ∷ []) (length (xs ++ x ∷ []) - 1) (om
 
 -- lift takes back what place did
 pub lifted : (s : State) (c : ℕ) → (on_lift (with_code s c)).next ≡ s
-lifted s c =
-    let cs : List ℕ = s.codes ++ c ∷ [] in
-    let some : eqb (length cs) 0 ≡ false = ne_eqb (length cs) 0 (λ e. omega (arith, length_push s.codes c)) in
-    ap (λ b. unless_refused (cond b (Some NoCodeToLift) None) (with_codes s cs) (with_codes s (without_last cs))) some
-    ∙ ap (with_codes s) (without_last_push s.codes c)
-
-grounds_some : (a b : Bool) (x y z : Cause) → first_ground ((a, x) ∷ (b, y) ∷ []) ≡ Some z → a ≡ false → b ≡ true
-grounds_some true b x y z e h = cc
-grounds_some false true x y z e h = refl
-grounds_some false false x y z e h = cc
+lifted s c = let one = length_push s.codes c in let e : without_last (s.codes ++ c ∷ []) ≡ s.codes = without_last_push s.codes c in grind (arith, nat_tests)
 
 -- a code that is accepted, and one that is not although a seat is left
 pub fits : (s : State) (c : ℕ) → (on_place s c).refusal ≡ None → (length s.codes < length (seats_of s.terms)) × (c ≤ 2 * blocks s.codes)
-fits s c e =
-    let g = none_holds (leb (length (seats_of s.terms)) (length s.codes)) EverySeatPlaced ((ltb (2 * blocks s.codes) c, CodeTooHigh) ∷ []) e in
-    let h = none_holds (ltb (2 * blocks s.codes) c) CodeTooHigh [] g.1 in
-    (leb-false (length (seats_of s.terms)) (length s.codes) g.0, ltb-false (2 * blocks s.codes) c h.0)
+fits s c e = (grind (arith, nat_tests), grind (arith, nat_tests))
 
 pub fits_not : (s : State) (c : ℕ) (z : Cause) → (on_place s c).refusal ≡ Some z → length s.codes < length (seats_of s.terms) → 2 * blocks s.codes < c
-fits_not s c z e l =
-    ltb-true (2 * blocks s.codes) c
-    (grounds_some (leb (length (seats_of s.terms)) (length s.codes)) (ltb (2 * blocks s.codes) c) EverySeatPlaced CodeTooHigh z e (lt-leb (length (seats_of s.terms)) (length s.codes) l))
+fits_not s c z e l = grind (arith, nat_tests)

@@ -1,11 +1,11 @@
 -- Dates: a number for each seat, from an engine that gives them.
-use Rattle.std.specs.Prelude.{◌≡◌, ℕ, ◌-◌, ◌<◌, Bool, true, if◌then◌else◌, ◌&&◌, List, [], ◌∷◌, ◌++◌, length, replicate, ℤ, pos, neg_ℤ, ◌-ℤ◌, ◌≤ℤ◌, ◌==◌, slice_index_or, All}
+use Rattle.std.specs.Prelude.{◌≡◌, ℕ, ◌<◌, Bool, true, if◌then◌else◌, ◌&&◌, List, [], ◌∷◌, length, ℤ, pos, neg_ℤ, ◌-ℤ◌, ◌≤ℤ◌, ◌==◌, slice_index_or, All}
 use Rattle.sheet.specs.declared.fault.Cause.TheVariants.{NoDates}
 use Rattle.sheet.specs.declared.fault.Fault.{Fault}
 use Rattle.sheet.specs.declared.row.Row.{Row}
 use Rattle.sheet.specs.declared.term.Term.{Term}
 use Rattle.sheet.specs.Causes.{fault_in}
-use Rattle.engine.specs.Limits.{max_seats, date_limit}
+use Rattle.engine.specs.Limits.{date_limit}
 use Rattle.engine.specs.Terms.{seats_of}
 use Rattle.engine.specs.Rows.{RowKind, kind_of, on_dated}
 use Rattle.engine.specs.Meaning.{Numbers, Holds}
@@ -32,13 +32,10 @@ pub record RightDates (counts : RowKind → Bool) (s : State) (dates : List ℤ)
   pub hold : All (CountedHolds counts s.terms dates) (active_rows s.rows)
 
 module _ (rule : List Term → List Row → List ℕ → Type 0) (s : State) where
-  -- every seat is placed and open says yes: the answer has the dates first, and 0 at each place that is left of the 8.
-  -- `picks` says which dates the engine gives
-  pub record Dated (counts : RowKind → Bool) (picks : List Term → List Row → List ℕ → List ℤ → Type 0) (answer : List ℤ) : Type 0 where
+  -- every seat is placed and open says yes: these are the dates. `picks` says which ones the engine gives
+  pub record Dated (counts : RowKind → Bool) (picks : List Term → List Row → List ℕ → List ℤ → Type 0) (dates : List ℤ) : Type 0 where
     pub placed : length s.codes ≡ length (seats_of s.terms)
     pub allowed : Completion rule s
-    pub dates : List ℤ
-    pub answered : answer ≡ dates ++ replicate (max_seats - length dates) (pos 0)
     pub right : RightDates counts s dates
     pub picked : picks s.terms (active_rows s.rows) s.codes dates
 

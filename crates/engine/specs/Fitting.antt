@@ -5,8 +5,8 @@ use Rattle.sheet.specs.declared.row.Row.{Row}
 use Rattle.sheet.specs.declared.term.Form.{Form}
 use Rattle.sheet.specs.declared.term.Form.TheVariants.{Name, One, Two}
 use Rattle.sheet.specs.declared.term.Term.{Term}
+use Rattle.sheet.specs.Terms.{is_dated}
 use Rattle.engine.specs.declared.noted.Noted.{Noted}
-use Rattle.engine.specs.Terms.{is_dated}
 use Rattle.engine.specs.Rows.{terms_below, is_span_on_level, bound_past_limit}
 use Rattle.engine.specs.Refusals.{term_refusal}
 

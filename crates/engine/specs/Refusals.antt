@@ -6,10 +6,10 @@ use Rattle.sheet.specs.declared.fault.Cause.TheVariants.{MalformedTerm, TermsFul
 use Rattle.sheet.specs.declared.fault.Fault.{Fault}
 use Rattle.sheet.specs.declared.row.Row.{Row}
 use Rattle.sheet.specs.declared.term.Term.{Term}
-use Rattle.sheet.specs.Causes.{fault_in}
-use Rattle.sheet.specs.Terms.{well_lettered}
+use Rattle.sheet.specs.Causes.{in_layer}
+use Rattle.sheet.specs.Terms.{is_dated, well_lettered}
 use Rattle.engine.specs.Limits.{max_terms, max_seats, max_rows}
-use Rattle.engine.specs.Terms.{is_dated, seats_of, arguments_below, any_count_differs}
+use Rattle.engine.specs.Terms.{seats_of, arguments_below, any_count_differs}
 use Rattle.engine.specs.Rows.{terms_below, is_span_on_level, bound_past_limit}
 
 -- the cause of the first test that holds
@@ -40,7 +40,11 @@ row_refusal ts n r = first_ground (
 abbrev pub strike_refusal : ℕ → Option Cause
 strike_refusal n = first_ground (((n == 0), NoRowToStrike) ∷ [])
 
--- what a call answers, in the layer with this letter
+-- what a call answers: the cause for which it refuses, if there is one
+abbrev pub answer_of : Option Cause → Result (Unit {0}) Cause
+answer_of None = Ok tt
+answer_of (Some c) = Err c
+
+-- the same, in the layer with this letter
 abbrev pub answer_in : ℕ → Option Cause → Result (Unit {0}) Fault
-answer_in letter None = Ok tt
-answer_in letter (Some c) = Err (fault_in letter c)
+answer_in letter o = in_layer letter (answer_of o)

@@ -1,18 +1,15 @@
--- Terms: which are dated, and what an application asks of the terms before it.
-use Rattle.std.specs.Prelude.{ℕ, suc, Bool, true, false, if◌then◌else◌, ◌&&◌, ◌||◌, List, [], ◌∷◌, ◌==◌, nat_lt, slice_index_or}
-use Rattle.sheet.specs.declared.term.Kind.{Kind}
-use Rattle.sheet.specs.declared.term.Kind.TheVariants.{Dated, Level}
+-- Terms: zero, the seats, and what an application asks of the terms before it.
+use Rattle.std.specs.Prelude.{ℕ, suc, Bool, true, false, if◌then◌else◌, ◌&&◌, List, [], ◌∷◌, ◌==◌, nat_lt, slice_index_or}
+use Rattle.std.specs.List.{list_any}
+use Rattle.sheet.specs.declared.term.Kind.TheVariants.{Dated}
 use Rattle.sheet.specs.declared.term.Form.{Form}
 use Rattle.sheet.specs.declared.term.Form.TheVariants.{Name, One, Two}
 use Rattle.sheet.specs.declared.term.Term.{Term}
+use Rattle.sheet.specs.Terms.{is_dated}
 
 -- term 0, which is there without being declared: dated, and a name
 abbrev pub zero_term : Term
 zero_term = record { kind = Dated; form = Name }
-
-abbrev pub is_dated : Kind → Bool
-is_dated Dated = true
-is_dated Level = false
 
 -- a term that is not there counts as dated: rows that name one are refused before this is asked
 abbrev pub is_dated_at : List Term → ℕ → Bool
@@ -44,5 +41,4 @@ counts_differ (Two a x y) (One b z) = a == b
 counts_differ (Two a x y) (Two b z w) = false
 
 abbrev pub any_count_differs : Form → List Term → Bool
-any_count_differs f [] = false
-any_count_differs f (t ∷ ts) = counts_differ f t.form || any_count_differs f ts
+any_count_differs f ts = list_any (λ (t : Term). counts_differ f t.form) ts

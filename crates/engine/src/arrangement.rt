@@ -1,19 +1,26 @@
 // Codes and ranks. docs/MEANING.md says what an arrangement and its codes are.
-ghost use Rattle.std.specs.Prelude.{◌≡◌, ℕ, ◌-◌, ◌<◌, ◌≤◌, ◌++◌, map, length, take, replicate, slice_index};
-ghost use Rattle.engine.specs.Arrangements.{EveryChoiceIsFollowed, blocks, rank_after, ranks};
+ghost use Rattle.std.specs.Prelude.{◌≡◌, ℕ, ◌<◌, ◌≤◌, map, length, take, slice_index};
+ghost use Rattle.engine.specs.Arrangements.{EveryChoiceIsFollowed, blocks, opens_block, rank_after, ranks};
+ghost use Rattle.engine.specs.Limits.{max_seats};
+
+use crate::limits::MAX_SEATS;
+use arrayvec::ArrayVec;
+
+// An even code opens a block, and an odd one joins a block. A code stays a number, since it is refused by its size and
+// compared and printed as one.
+fn opens_block(code: u8) -> bool
+    ensures { result ≡ opens_block code }
+{
+    code % 2 == 0
+}
 
 // How many blocks the codes open.
+#[tactic(auto, using(crate::proofs::Codes::blocks_counted))]
 pub(crate) fn count_blocks(codes: &[u8]) -> usize
     ensures value { result ≡ blocks codes.now }
     ensures bound { result ≤ length codes.now }
 {
-    let mut count = 0;
-    for code in codes {
-        if code % 2 == 0 {
-            count += 1;
-        }
-    }
-    count
+    codes.iter().filter(|code| opens_block(**code)).count()
 }
 
 // Opens a block at `block`: the seats of the blocks from there on move up by one.
@@ -28,19 +35,17 @@ fn open_block(ranks: &mut [u8], block: u8)
     }
 }
 
-// The rank of each seat that has a code, and 0 at each place that is left of 8. Codes past the eighth are not looked at.
-pub fn rank_seats(codes: &[u8]) -> [u8; 8]
-    ensures { result ≡ ranks (take 8 codes.now) ++ replicate (8 - length codes.now) 0 }
+// The rank of each seat that has a code. Codes past the eighth are not looked at.
+pub fn rank_seats(codes: &[u8]) -> ArrayVec<u8, MAX_SEATS>
+    ensures { result.items ≡ ranks (take max_seats codes.now) }
 {
-    let mut ranks = [0; 8];
-    let count = codes.len().min(8);
-    for k in 0..count {
-        let code = codes[k];
+    let mut ranks = ArrayVec::new();
+    for code in &codes[..codes.len().min(MAX_SEATS)] {
         let block = code / 2;
-        if code % 2 == 0 {
-            open_block(&mut ranks[0..k], block);
+        if opens_block(*code) {
+            open_block(ranks.as_mut_slice(), block);
         }
-        ranks[k] = block;
+        ranks.push(block);
     }
     ranks
 }

@@ -6,6 +6,8 @@ ghost use Rattle.sheet.specs.declared.row.Row.{Row};
 ghost use Rattle.sheet.specs.declared.term.Term.{Term};
 
 use crate::engine::Engine;
+use crate::limits::MAX_SEATS;
+use arrayvec::ArrayVec;
 use sheet::fault::Fault;
 
 // An engine with one function more: a number for each seat.
@@ -16,12 +18,12 @@ pub trait Dating: Engine {
     // which numbers they are, by the setting, the terms, the active rows and the codes alone
     ghost picks: { ℕ → List Term → List Row → List ℕ → List ℤ → Type 0 };
 
-    // The number of each seat, in the order of the seats, and 0 at each place that is left.
-    fn dates(&self) -> Result<[i64; 8], Fault>
+    // The number of each seat, in the order of the seats.
+    fn dates(&self) -> Result<ArrayVec<i64, MAX_SEATS>, Fault>
         ensures { let rule = Self.rule (Self.setting self.now) in
             let state = Self.state self.now in
             MatchResult result
-            (λ dates. Dated rule state counts (picks (Self.setting self.now)) dates)
+            (λ dates. Dated rule state counts (picks (Self.setting self.now)) dates.items)
             (λ fault. Undated rule state Self.LETTER fault) };
 
     // there is only one choice of them

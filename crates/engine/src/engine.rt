@@ -22,7 +22,8 @@ pub trait Engine {
     // what the engine holds
     ghost state: { Self → State };
 
-    // what the engine was made with: no call changes it
+    // what the engine was made with: no call changes it, and each says so itself, since the fact is of an engine before and after,
+    // which no invariant of a type can hold
     ghost setting: { Self → ℕ };
 
     // which arrangements are allowed, by the setting, the terms, the active rows and the codes alone
@@ -51,7 +52,8 @@ pub trait Engine {
         ensures leaves { state self.new ≡ (on_strike (state self.old)).next }
         ensures keeps { setting self.new ≡ setting self.old };
 
-    // Makes row i count no more. It may be muted already.
+    // Makes row i count no more. It may be muted already. Mute and unmute are two calls, as those who use engines name them;
+    // one function serves both.
     fn mute(&mut self, i: u8) -> Result<(), Fault>
         ensures answers { result ≡ answer_in LETTER (on_mark (state self.old) i false).refusal }
         ensures leaves { state self.new ≡ (on_mark (state self.old) i false).next }

@@ -1,21 +1,22 @@
 // What an engine holds, with the calls that all engines share.
 ghost use Rattle.std.specs.Prelude.{◌≡◌, ℕ, ◌<◌, ◌≤◌, true, [], ◌∷◌, ◌++◌, IfOk, if◌then◌else◌, vec_len, vec_capacity};
 ghost use Rattle.engine.specs.Arrangements.{is_valid};
-ghost use Rattle.engine.specs.Calls.{on_lift, on_mark, on_note_row, on_note_term, on_place, on_strike, without_last};
+ghost use Rattle.engine.specs.Calls.{codes_refusal, on_lift, on_mark, on_note_row, on_note_term, on_place, on_strike};
 ghost use Rattle.engine.specs.Fitting.{all_rows_fit, all_terms_fit};
 ghost use Rattle.engine.specs.Limits.{max_rows, max_seats, max_terms};
-ghost use Rattle.engine.specs.Refusals.{answer_in};
+ghost use Rattle.engine.specs.Refusals.{answer_of};
 ghost use Rattle.engine.specs.States.{new_state};
-ghost use Rattle.engine.specs.Terms.{is_dated, seats_of};
+ghost use Rattle.engine.specs.Terms.{seats_of};
+ghost use Rattle.sheet.specs.Terms.{is_dated};
 
 use crate::arrangement::count_blocks;
 use crate::limits::{MAX_ROWS, MAX_SEATS, MAX_TERMS};
 use crate::noted::Noted;
-use crate::refusals::{row_refusal, term_refusal};
-use crate::terms::{ZERO, is_dated};
-use sheet::fault::{Cause, Fault};
+use crate::refusals::{check_row, check_term};
+use crate::terms::ZERO;
+use sheet::fault::Cause;
 use sheet::row::Row;
-use sheet::term::{Kind, Term};
+use sheet::term::Term;
 use std::alloc::{AllocError, Global};
 
 // The terms and rows noted and the codes placed, with the effects and refusals that all engines share.
@@ -26,6 +27,7 @@ pub struct Holdings {
     // the indices of the dated terms
     pub(crate) seats: Vec<u8>,
     pub(crate) rows: Vec<Noted>,
+    // the codes of the seats that are placed; a list of its own, since seats are there before they are placed
     pub(crate) codes: Vec<u8>,
     ghost term_room: { max_terms ≤ vec_capacity terms },
     ghost seat_room: { max_seats ≤ vec_capacity seats },
@@ -81,117 +83,111 @@ impl Holdings {
         self.codes.as_slice()
     }
 
+    // Term 0 is zero and has the first seat, so only what follows is dropped.
     pub fn renew(&mut self)
         ensures { state_of self.new ≡ new_state }
     {
         self.codes.clear();
         self.rows.clear();
-        self.seats.clear();
-        self.terms.clear();
-        self.terms.push_reserved(ZERO);
-        self.seats.push_reserved(0);
+        self.seats.truncate(1);
+        self.terms.truncate(1);
     }
 
-    // Each call that may refuse is told the letter of the engine that makes it, for its fault.
-    pub fn note_term(&mut self, term: Term, letter: char) -> Result<(), Fault>
-        ensures answers { result ≡ answer_in letter (on_note_term (state_of self.old) term).refusal }
+    // A call that refuses answers the cause; the engine that makes it adds its letter.
+    pub fn note_term(&mut self, term: Term) -> Result<(), Cause>
+        ensures answers { result ≡ answer_of (on_note_term (state_of self.old) term).refusal }
         ensures leaves { state_of self.new ≡ (on_note_term (state_of self.old) term).next }
     {
-        if let Some(cause) = term_refusal(&self.terms, term) {
-            return Err(cause.in_layer(letter));
-        }
-        if !self.codes.is_empty() {
-            return Err(Cause::CodesPlaced.in_layer(letter));
-        }
-        list_seat(&mut self.seats, self.terms.len(), term.kind);
+        check_term(&self.terms, term)?;
+        self.check_no_codes()?;
+        list_seat(&mut self.seats, self.terms.len(), term);
         self.terms.push_reserved(term);
         Ok(())
     }
 
-    pub fn note_row(&mut self, row: Row, letter: char) -> Result<(), Fault>
-        ensures answers { result ≡ answer_in letter (on_note_row (state_of self.old) row).refusal }
+    pub fn note_row(&mut self, row: Row) -> Result<(), Cause>
+        ensures answers { result ≡ answer_of (on_note_row (state_of self.old) row).refusal }
         ensures leaves { state_of self.new ≡ (on_note_row (state_of self.old) row).next }
     {
-        if let Some(cause) = row_refusal(&self.terms, self.rows.len(), row) {
-            return Err(cause.in_layer(letter));
-        }
-        if !self.codes.is_empty() {
-            return Err(Cause::CodesPlaced.in_layer(letter));
-        }
+        check_row(&self.terms, self.rows.len(), row)?;
+        self.check_no_codes()?;
         self.rows.push_reserved(Noted { row, active: true });
         Ok(())
     }
 
-    pub fn strike(&mut self, letter: char) -> Result<(), Fault>
-        ensures answers { result ≡ answer_in letter (on_strike (state_of self.old)).refusal }
+    #[tactic(auto, using(crate::proofs::Fitting::rows_take))]
+    pub fn strike(&mut self) -> Result<(), Cause>
+        ensures answers { result ≡ answer_of (on_strike (state_of self.old)).refusal }
         ensures leaves { state_of self.new ≡ (on_strike (state_of self.old)).next }
     {
         if self.rows.is_empty() {
-            return Err(Cause::NoRowToStrike.in_layer(letter));
+            return Err(Cause::NoRowToStrike);
         }
-        if !self.codes.is_empty() {
-            return Err(Cause::CodesPlaced.in_layer(letter));
-        }
-        remove_last(&mut self.rows);
+        self.check_no_codes()?;
+        self.rows.pop();
         Ok(())
     }
 
-    // Makes row i active, or mutes it.
-    pub fn mark(&mut self, i: u8, active: bool, letter: char) -> Result<(), Fault>
-        ensures answers { result ≡ answer_in letter (on_mark (state_of self.old) i active).refusal }
+    // Makes row i active, or mutes it: the flag is the mark that a row has.
+    #[tactic(auto, using(crate::proofs::Fitting::rows_marked, crate::proofs::Fitting::set_mark))]
+    pub fn mark(&mut self, i: u8, active: bool) -> Result<(), Cause>
+        ensures answers { result ≡ answer_of (on_mark (state_of self.old) i active).refusal }
         ensures leaves { state_of self.new ≡ (on_mark (state_of self.old) i active).next }
     {
         if i as usize >= self.rows.len() {
-            return Err(Cause::NoSuchRow.in_layer(letter));
+            return Err(Cause::NoSuchRow);
         }
-        if !self.codes.is_empty() {
-            return Err(Cause::CodesPlaced.in_layer(letter));
-        }
+        self.check_no_codes()?;
         self.rows[i as usize].active = active;
         Ok(())
     }
 
-    pub fn place(&mut self, code: u8, letter: char) -> Result<(), Fault>
-        ensures answers { result ≡ answer_in letter (on_place (state_of self.old) code).refusal }
+    #[tactic(auto, using(crate::proofs::Ranks::valid_push))]
+    pub fn place(&mut self, code: u8) -> Result<(), Cause>
+        ensures answers { result ≡ answer_of (on_place (state_of self.old) code).refusal }
         ensures leaves { state_of self.new ≡ (on_place (state_of self.old) code).next }
     {
         if self.codes.len() >= self.seats.len() {
-            return Err(Cause::EverySeatPlaced.in_layer(letter));
+            return Err(Cause::EverySeatPlaced);
         }
         if code as usize > 2 * count_blocks(&self.codes) {
-            return Err(Cause::CodeTooHigh.in_layer(letter));
+            return Err(Cause::CodeTooHigh);
         }
         self.codes.push_reserved(code);
         Ok(())
     }
 
-    pub fn lift(&mut self, letter: char) -> Result<(), Fault>
-        ensures answers { result ≡ answer_in letter (on_lift (state_of self.old)).refusal }
+    #[tactic(auto, using(crate::proofs::Ranks::valid_take))]
+    pub fn lift(&mut self) -> Result<(), Cause>
+        ensures answers { result ≡ answer_of (on_lift (state_of self.old)).refusal }
         ensures leaves { state_of self.new ≡ (on_lift (state_of self.old)).next }
     {
         if self.codes.is_empty() {
-            return Err(Cause::NoCodeToLift.in_layer(letter));
+            return Err(Cause::NoCodeToLift);
         }
-        remove_last(&mut self.codes);
+        self.codes.pop();
+        Ok(())
+    }
+
+    // Terms, rows and marks are not touched while codes are placed.
+    fn check_no_codes(&self) -> Result<(), Cause>
+        ensures { result ≡ answer_of (codes_refusal (state_of self.now)) }
+    {
+        if !self.codes.is_empty() {
+            return Err(Cause::CodesPlaced);
+        }
         Ok(())
     }
 }
 
 // Lists the term with this index among the seats if it is dated.
-fn list_seat(seats: &mut Vec<u8>, index: usize, kind: Kind)
+fn list_seat(seats: &mut Vec<u8>, index: usize, term: Term)
     requires small { index < 256 }
-    requires room { is_dated kind ≡ true → vec_len seats.old < vec_capacity seats.old }
-    ensures items { seats.new.items ≡ seats.old.items ++ (if is_dated kind then index ∷ [] else []) }
+    requires room { is_dated term.kind ≡ true → vec_len seats.old < vec_capacity seats.old }
+    ensures items { seats.new.items ≡ seats.old.items ++ (if is_dated term.kind then index ∷ [] else []) }
     ensures capacity { vec_capacity seats.new ≡ vec_capacity seats.old }
 {
-    if is_dated(kind) {
+    if term.is_dated() {
         seats.push_reserved(index as u8);
     }
-}
-
-fn remove_last<T: Drop>(items: &mut Vec<T>)
-    ensures items { items.new.items ≡ without_last items.old.items }
-    ensures capacity { vec_capacity items.new ≡ vec_capacity items.old }
-{
-    let _ = items.pop();
 }

@@ -1,51 +1,51 @@
 // Why a term or a row is refused. The tests stand in the order in which they are made.
 ghost use Rattle.std.specs.Prelude.{◌≡◌, ℕ};
-ghost use Rattle.engine.specs.Refusals.{row_refusal, term_refusal};
+ghost use Rattle.engine.specs.Refusals.{answer_of, row_refusal, term_refusal};
 
 use crate::limits::{MAX_ROWS, MAX_SEATS, MAX_TERMS};
 use crate::rows::{has_terms_below, is_bound_past_limit, is_span_on_level};
-use crate::terms::{any_count_differs, count_seats, has_arguments_below, is_dated};
+use crate::terms::{any_count_differs, count_seats, has_arguments_below};
 use sheet::fault::Cause;
 use sheet::row::Row;
 use sheet::term::Term;
 
-// Why the terms cannot take one more, if there is a reason.
-pub fn term_refusal(terms: &[Term], term: Term) -> Option<Cause>
-    ensures { result ≡ term_refusal terms.now term }
+// Whether the terms can take one more.
+pub fn check_term(terms: &[Term], term: Term) -> Result<(), Cause>
+    ensures { result ≡ answer_of (term_refusal terms.now term) }
 {
     if !term.form.is_well_lettered() {
-        return Some(Cause::MalformedTerm);
+        return Err(Cause::MalformedTerm);
     }
     if terms.len() >= MAX_TERMS {
-        return Some(Cause::TermsFull);
+        return Err(Cause::TermsFull);
     }
-    if is_dated(term.kind) && count_seats(terms) >= MAX_SEATS {
-        return Some(Cause::DatedTermsFull);
+    if term.is_dated() && count_seats(terms) >= MAX_SEATS {
+        return Err(Cause::DatedTermsFull);
     }
     if !has_arguments_below(term.form, terms.len()) {
-        return Some(Cause::ArgumentNotEarlier);
+        return Err(Cause::ArgumentNotEarlier);
     }
     if any_count_differs(term.form, terms) {
-        return Some(Cause::OtherArgumentCount);
+        return Err(Cause::OtherArgumentCount);
     }
-    None
+    Ok(())
 }
 
-// Why a row cannot follow `count` rows over these terms, if there is a reason.
-pub fn row_refusal(terms: &[Term], count: usize, row: Row) -> Option<Cause>
-    ensures { result ≡ row_refusal terms.now count row }
+// Whether a row can follow `count` rows over these terms.
+pub fn check_row(terms: &[Term], count: usize, row: Row) -> Result<(), Cause>
+    ensures { result ≡ answer_of (row_refusal terms.now count row) }
 {
     if count >= MAX_ROWS {
-        return Some(Cause::RowsFull);
+        return Err(Cause::RowsFull);
     }
     if !has_terms_below(row, terms.len()) {
-        return Some(Cause::NoSuchTerm);
+        return Err(Cause::NoSuchTerm);
     }
     if is_span_on_level(row, terms) {
-        return Some(Cause::SpanOnLevel);
+        return Err(Cause::SpanOnLevel);
     }
     if is_bound_past_limit(row) {
-        return Some(Cause::BoundPastLimit);
+        return Err(Cause::BoundPastLimit);
     }
-    None
+    Ok(())
 }

@@ -32,7 +32,7 @@ pub(crate) fn is_bound_past_limit(row: Row) -> bool
     ensures { result ≡ bound_past_limit row }
 {
     match row {
-        Row::Span { bound, .. } => bound < -MAX_BOUND || bound > MAX_BOUND,
+        Row::Span { bound, .. } => !(-MAX_BOUND..=MAX_BOUND).contains(&bound),
         Row::Same { .. } | Row::Unlike { .. } => false,
     }
 }

@@ -1,6 +1,6 @@
-// What is asked of terms: which are dated, and what an application asks of the terms before it.
+// What is asked of terms: how many are dated, and what an application asks of the terms before it.
 ghost use Rattle.std.specs.Prelude.{◌≡◌, ℕ, ◌≤◌, length};
-ghost use Rattle.engine.specs.Terms.{is_dated, is_dated_at, seats_of, arguments_below, counts_differ, any_count_differs};
+ghost use Rattle.engine.specs.Terms.{is_dated_at, seats_of, arguments_below, counts_differ, any_count_differs};
 
 use sheet::term::{Form, Kind, Term};
 
@@ -10,37 +10,20 @@ pub const ZERO: Term = Term {
     form: Form::Name,
 };
 
-pub fn is_dated(kind: Kind) -> bool
-    ensures { result ≡ is_dated kind }
-{
-    match kind {
-        Kind::Dated => true,
-        Kind::Level => false,
-    }
-}
-
 // Whether term i is dated; one that is not there counts as dated.
 pub(crate) fn is_dated_at(terms: &[Term], i: u8) -> bool
     ensures { result ≡ is_dated_at terms.now i }
 {
-    match terms.get(i as usize) {
-        Some(term) => is_dated(term.kind),
-        None => true,
-    }
+    terms.get(i as usize).is_none_or(|term| term.is_dated())
 }
 
 // How many of the terms are dated.
+#[tactic(auto, using(crate::proofs::Seats::seats_counted))]
 pub(crate) fn count_seats(terms: &[Term]) -> usize
     ensures value { result ≡ length (seats_of terms.now) }
     ensures bound { result ≤ length terms.now }
 {
-    let mut count = 0;
-    for term in terms {
-        if is_dated(term.kind) {
-            count += 1;
-        }
-    }
-    count
+    terms.iter().filter(|term| term.is_dated()).count()
 }
 
 // Whether each argument is one of the first n terms.
@@ -59,8 +42,8 @@ pub(crate) fn counts_differ(form: Form, other: Form) -> bool
     ensures { result ≡ counts_differ form other }
 {
     match (form, other) {
-        (Form::One { table: a, .. }, Form::Two { table: b, .. }) => a == b,
-        (Form::Two { table: a, .. }, Form::One { table: b, .. }) => a == b,
+        (Form::One { table: a, .. }, Form::Two { table: b, .. })
+        | (Form::Two { table: a, .. }, Form::One { table: b, .. }) => a == b,
         _ => false,
     }
 }
@@ -69,10 +52,5 @@ pub(crate) fn counts_differ(form: Form, other: Form) -> bool
 pub(crate) fn any_count_differs(form: Form, terms: &[Term]) -> bool
     ensures { result ≡ any_count_differs form terms.now }
 {
-    for term in terms {
-        if counts_differ(form, term.form) {
-            return true;
-        }
-    }
-    false
+    terms.iter().any(|term| counts_differ(form, term.form))
 }

@@ -1,12 +1,12 @@
 -- A walk over the fields of a sheet, one field at a time.
 use Rattle.std.proofs.Common.{◌≡◌, ℕ, ◌+◌, ◌-◌, ◌≤◌, List, [], ◌∷◌, ◌++◌, length, take, drop, Ok, sym, refl, ap, ◌∙◌, subst, arith, take-add}
 use borrow.Rule.Slice.PartMut.{put_mid}
-use Rattle.std.proofs.lemmas.List.{append_assoc, length-append, length-drop, length-take, length-take-le, nil_from_length, take_all, take_at}
+use Rattle.std.proofs.lemmas.List.{append_assoc, length-append, length-drop, length-take, length-take-le, take_at}
 use Rattle.sheet.specs.declared.fault.Fault.{Fault}
 use Rattle.sheet.specs.Encoding.{Written, encode}
 use Rattle.sheet.specs.Fields.{FieldValue}
 use Rattle.sheet.specs.Parsing.{stated_length}
-use Rattle.sheet.proofs.Taking.{IsLeft, Took, left_after, left_at_start}
+use Rattle.sheet.specs.Walks.{Took}
 use Rattle.fieldlist.specs.WritingBack.{Alike, Front, none, more}
 
 -- t is left of s after n fields
@@ -15,10 +15,9 @@ pub record Walked (s t : List ℕ) (n : ℕ) : Type 0 where
   pub front : Front s fields t
   pub count : n ≡ length fields
   pub long : n + length t ≤ length s
-  pub place : IsLeft s t
 
 pub start : (s : List ℕ) → Walked s s 0
-start s = record { fields = []; front = none; count = refl; long = omega arith; place = left_at_start s }
+start s = record { fields = []; front = none; count = refl; long = omega arith }
 
 -- one field more
 pub step : (s t u : List ℕ) (n m : ℕ) (f : FieldValue) → Walked s t n → Took t f u → m ≡ n + 1 → Walked s u m
@@ -31,7 +30,6 @@ step s t u n m f w k more_one =
       front = subst (λ x. Front s (f ∷ w.fields) x) (sym k.rest) (more w.front k.read);
       count = omega arith;
       long = omega arith;
-      place = left_after s t u f (omega arith) w.place k;
     }
 
 -- written again with room for it, it is found alike
@@ -77,16 +75,6 @@ copy s t u b old part f p k ends fits place before is after =
           ∙ sym (take-add p size s)
           ∙ ap (λ n. take n s) (sym sum);
     }
-
--- nothing is left
-pub whole : (s t : List ℕ) (n : ℕ) → Walked s t n → length t ≡ 0 → (fs : List FieldValue) × Front s fs [] × (n ≡ length fs)
-whole s t n w none_left = (w.fields, subst (Front s w.fields) (nil_from_length t none_left) w.front, w.count)
-
--- and the buffer holds the sheet
-pub all_copied : (s t b : List ℕ) → length t ≡ 0 → Copied s t b → b ≡ s
-all_copied s t b none_left c =
-    let long = c.long in
-    sym (take_all (length s - length t) b (omega arith)) ∙ c.same ∙ take_all (length s - length t) s (omega arith)
 
 pub none_copied : (s b : List ℕ) → length b ≡ length s → Copied s s b
 none_copied s b e =

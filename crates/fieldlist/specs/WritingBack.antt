@@ -1,11 +1,11 @@
 -- How reading the fields of a sheet and writing them back ends.
-use Rattle.std.specs.Prelude.{◌≡◌, ℕ, ◌<◌, List, [], ◌∷◌, length, take, drop, Ok, Err}
+use Rattle.std.specs.Prelude.{◌≡◌, ℕ, ◌<◌, List, [], ◌∷◌, length, take, drop, Ok, Err, Result}
 use Rattle.sheet.specs.declared.fault.Fault.{Fault}
+use Rattle.sheet.specs.declared.refusal.Refusal.{Refusal}
 use Rattle.sheet.specs.Encoding.{Written}
 use Rattle.sheet.specs.Fields.{FieldValue}
 use Rattle.sheet.specs.Parsing.{parse, remaining}
-use Rattle.fieldlist.specs.declared.write_back.Ending.{Ending}
-use Rattle.fieldlist.specs.declared.write_back.Ending.TheVariants.{Whole, Refused}
+use Rattle.fieldlist.specs.declared.write_back.Tally.{Tally}
 
 -- the writer answered the length of these bytes, and its buffer begins with them
 abbrev pub Alike : Written Fault → List ℕ → Type 0
@@ -17,8 +17,8 @@ pub data Front (s : List ℕ) : List FieldValue → List ℕ → Type 0 where
   more : {fs : List FieldValue} {f : FieldValue} {t : List ℕ} → Front s fs t → parse t ≡ Ok f → Front s (f ∷ fs) (remaining t)
 
 -- the sheet s was read, and the buffer holds b then
-abbrev pub Ended : List ℕ → List ℕ → Ending → Type 0
+abbrev pub Ended : List ℕ → List ℕ → Result Tally Refusal → Type 0
 -- every byte of s belongs to a field, every field was found alike, and b is s
-Ended s b (Whole fields bytes alike bytes_alike) = (fs : List FieldValue) × Front s fs [] × (fields ≡ length fs) × (bytes ≡ length s) × (alike ≡ fields) × (bytes_alike ≡ bytes) × (b ≡ s)
--- fields stand before byte p, and b has their bytes; what starts at byte p is refused
-Ended s b (Refused fault p) = (fs : List FieldValue) × Front s fs (drop p s) × (parse (drop p s) ≡ Err fault) × (p < length s) × (take p b ≡ take p s)
+Ended s b (Ok t) = (fs : List FieldValue) × Front s fs [] × (t.fields ≡ length fs) × (t.bytes ≡ length s) × (t.fields_alike ≡ t.fields) × (t.bytes_alike ≡ t.bytes) × (b ≡ s)
+-- fields stand before the place, and b has their bytes; what starts there is refused
+Ended s b (Err e) = (fs : List FieldValue) × Front s fs (drop e.place s) × (parse (drop e.place s) ≡ Err e.fault) × (e.place < length s) × (take e.place b ≡ take e.place s)

@@ -1,11 +1,10 @@
 // The lines of a sheet's fields.
 ghost use Rattle.std.specs.Prelude.{◌≡◌, IfOk, string_bytes};
-ghost use Rattle.fieldlist.specs.Listing.{Listing, is_term};
-ghost use Rattle.sheet.specs.Fields.{value_of};
+ghost use Rattle.fieldlist.specs.Listing.{Listing};
 
 use crate::words::Line;
 use sheet::field::Field;
-use sheet::reader::read_field;
+use sheet::fields::{Fields, PlacedField};
 use std::alloc::{AllocError, Global};
 
 // A line for each field, up to the end or to the first that is refused.
@@ -13,23 +12,23 @@ pub(crate) fn list_fields(heap: Global, sheet: &[u8]) -> Result<String, AllocErr
     ensures { IfOk result (λ text. Listing sheet.now (string_bytes text)) }
 {
     let mut text = String::new(heap);
-    let mut rest = sheet;
+    // Terms and rows are counted apart, so neither count is the index of the item.
     let mut terms = 0;
     let mut rows = 0;
-    while !rest.is_empty() {
-        let place = sheet.len() - rest.len();
-        let (outcome, after) = read_field(rest);
-        let field = match outcome {
-            Ok(field) => field,
-            Err(_) => return Ok(text),
+    for item in Fields::new(sheet) {
+        let Ok(PlacedField { place, field, .. }) = item else {
+            return Ok(text);
         };
         // Term 0 is zero and has no field.
-        let index = if is_term(&field) {
-            terms += 1;
-            terms
-        } else {
-            rows += 1;
-            rows - 1
+        let index = match field {
+            Field::Term { .. } => {
+                terms += 1;
+                terms
+            }
+            Field::Row(_) => {
+                rows += 1;
+                rows - 1
+            }
         };
         let line = Line {
             place,
@@ -38,16 +37,6 @@ pub(crate) fn list_fields(heap: Global, sheet: &[u8]) -> Result<String, AllocErr
         };
         let line = format!(in heap; "{line}\n")?;
         text.push_str(line.as_str())?;
-        rest = after;
     }
     Ok(text)
-}
-
-fn is_term(field: &Field<'_>) -> bool
-    ensures { result ≡ is_term (value_of field.now) }
-{
-    match field {
-        Field::Term { .. } => true,
-        Field::Row(_) => false,
-    }
 }

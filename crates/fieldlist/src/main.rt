@@ -5,11 +5,8 @@ mod words;
 mod write_back;
 
 use crate::listing::list_fields;
-use crate::write_back::{Ending, write_fields_back};
-use program::arguments::asks_for_help;
-use program::causes::cause_in_words;
-use program::input::read_sheet;
-use std::io;
+use crate::write_back::write_fields_back;
+use program::host::Program;
 
 const HELP: &str = "usage: fieldlist < SHEET
 
@@ -27,27 +24,23 @@ fn main(rt: HostRuntime) -> anyhow::Result<()> {
 }
 
 fn run(rt: &HostRuntime) -> anyhow::Result<()> {
-    if asks_for_help(rt, "fieldlist")? {
-        println!(rt; "{HELP}")?;
+    let program = Program {
+        rt,
+        name: "fieldlist",
+        help: HELP,
+    };
+    let Some(sheet) = program.sheet()? else {
         return Ok(());
-    }
-    let sheet = read_sheet(rt, "fieldlist")?;
-    if sheet.is_empty() {
-        eprintln!(rt; "fieldlist: no bytes came in\n{HELP}")?;
-    }
+    };
     let mut buffer = vec![in rt.alloc(); 0u8; sheet.len()]?;
     let ending = write_fields_back(sheet.as_slice(), buffer.as_mut_slice());
     let lines = list_fields(rt.alloc(), sheet.as_slice())?;
-    println!(rt; "{lines}{ending}")?;
-    explain(rt, ending)?;
-    Ok(())
-}
-
-// Why a field was refused, for a person.
-fn explain(rt: &HostRuntime, ending: Ending) -> io::Result<()> {
-    if let Ending::Refused { fault, place } = ending {
-        let why = cause_in_words(fault.cause);
-        eprintln!(rt; "fieldlist: the field that starts at byte {place}: {why}")?;
+    match ending {
+        Ok(tally) => println!(rt; "{lines}{tally}")?,
+        Err(refusal) => {
+            println!(rt; "{lines}{refusal}")?;
+            program.explain(refusal)?;
+        }
     }
     Ok(())
 }

@@ -4,58 +4,47 @@ ghost use Rattle.fieldlist.specs.WritingBack.{Alike, Ended};
 ghost use Rattle.sheet.specs.Encoding.{encode};
 ghost use Rattle.sheet.specs.Fields.{value_of};
 
-use sheet::fault::Fault;
 use sheet::field::Field;
-use sheet::reader::read_field;
+use sheet::fields::{Fields, PlacedField};
+use sheet::refusal::Refusal;
 use sheet::writer::write_field;
 
-// How a sheet's fields end.
-#[derive(Clone, Copy)]
-pub enum Ending {
-    // At the last byte: what was read, and what was written back alike.
-    Whole {
-        fields: usize,
-        bytes: usize,
-        fields_alike: usize,
-        bytes_alike: usize,
-    },
-    // At the field that starts at byte `place`.
-    Refused {
-        fault: Fault,
-        place: usize,
-    },
+// What was read of a whole sheet, and what was written back alike.
+#[derive(Clone, Copy, Debug, PartialEq, Eq)]
+pub struct Tally {
+    pub fields: usize,
+    pub bytes: usize,
+    pub fields_alike: usize,
+    pub bytes_alike: usize,
 }
 
 // Writes each field into the buffer, at the place where it stands in the sheet, and compares the two.
-pub(crate) fn write_fields_back(sheet: &[u8], buffer: &mut [u8]) -> Ending
+pub(crate) fn write_fields_back(sheet: &[u8], buffer: &mut [u8]) -> Result<Tally, Refusal>
     requires { length buffer.old ≡ length sheet.now }
     ensures { Ended sheet.now buffer.new result }
 {
-    let mut rest = sheet;
+    // Counts of what is read, and no indices: they end with the first refusal.
     let mut fields = 0;
     let mut fields_alike = 0;
     let mut bytes_alike = 0;
-    while !rest.is_empty() {
-        let place = sheet.len() - rest.len();
-        let (outcome, after) = read_field(rest);
-        let field = match outcome {
-            Ok(field) => field,
-            Err(fault) => return Ending::Refused { fault, place },
-        };
-        let size = rest.len() - after.len();
+    for item in Fields::new(sheet) {
+        let PlacedField {
+            place,
+            bytes,
+            field,
+        } = item?;
         fields += 1;
-        if is_written_alike(&field, &rest[0..size], &mut buffer[place..]) {
+        if is_written_alike(&field, bytes, &mut buffer[place..]) {
             fields_alike += 1;
-            bytes_alike += size;
+            bytes_alike += bytes.len();
         }
-        rest = after;
     }
-    Ending::Whole {
+    Ok(Tally {
         fields,
         bytes: sheet.len(),
         fields_alike,
         bytes_alike,
-    }
+    })
 }
 
 // Writes the field at the front of the part, and tells whether just these bytes were written.

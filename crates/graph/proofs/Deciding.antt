@@ -1,6 +1,7 @@
 -- The claims of specs/Claims.antt: what the distances after some rounds decide.
-use Rattle.std.proofs.Common.{◌≡◌, ℕ, zero, suc, pred, ◌+◌, ◌*◌, ◌<◌, ◌≤◌, Bool, true, false, ◌⊎◌, List, [], ◌∷◌, length, ℤ, pos, ◌+ℤ◌, neg_ℤ, ◌≤ℤ◌, ◌<ℤ◌, Contains, sym, refl, ap, ◌∙◌, subst, inl, inr, mul-le-mul_right, arith}
+use Rattle.std.proofs.Common.{◌≡◌, ℕ, zero, suc, pred, ◌+◌, ◌*◌, ◌<◌, ◌≤◌, true, false, ◌⊎◌, List, [], ◌∷◌, length, ℤ, pos, neg_ℤ, ◌≤ℤ◌, ◌<ℤ◌, Contains, sym, refl, ap, ◌∙◌, subst, inl, inr, mul-le-mul_right, arith}
 use lib.Signed.{≤ℤ_refl}
+use Rattle.std.proofs.lemmas.Bool.{false_from_ne_true, true_from_ne_false}
 use Rattle.std.proofs.lemmas.Int.{ints}
 use Rattle.std.proofs.lemmas.List.Elements.{All-contains, All-contains_itself}
 use Rattle.graph.specs.declared.Edge.{Edge}
@@ -24,8 +25,8 @@ module _ (n : ℕ) (es : List Edge) (within : Within n es) where
         where
           under : AtMost n x (at (relaxed e d))
           under v i = elim (relaxed_at e d v (omega (arith, q.0, to_in e h))) [
-            | inl r ↦ (let a : x v ≡ x e.to = ap x r.0 in let b : x e.to ≤ℤ (x e.from +ℤ e.weight) = All-contains (EdgeHolds x) es e s.0 h in let c : x e.from ≤ℤ at d e.from = q.1 e.from (from_in e h) in let g : at (relaxed e d) v ≡ through e d = r.2 in omega (arith, ints))
-            | inr r ↦ (let c : x v ≤ℤ at d v = q.1 v i in let g : at (relaxed e d) v ≡ at d v = r.0 in omega (arith, ints))
+            | inl r ↦ (let a = ap x r.0 in let b = All-contains (EdgeHolds x) es e s.0 h in let c = q.1 e.from (from_in e h) in omega (arith, ints))
+            | inr r ↦ (let c = q.1 v i in omega (arith, ints))
           ]
 
   never_above : (k : ℕ) (v : ℕ) → at (after n k es) v ≤ℤ pos 0
@@ -46,10 +47,8 @@ module _ (n : ℕ) (es : List Edge) (within : Within n es) where
         where
           along : (v : ℕ) → v < n → WalkTo (relaxed e d) v
           along v i = elim (relaxed_at e d v (omega (arith, q.0, to_in e h))) [
-            | inl r ↦ (let o : WalkTo d e.from = q.1 e.from (from_in e h) in
-                let f : at d e.from ≡ total o.0 = o.3 in let g : at (relaxed e d) v ≡ through e d = r.2 in
-                (e ∷ o.0, o.1, (h, sym r.0, o.2), omega (arith, ints)))
-            | inr r ↦ (let o : WalkTo d v = q.1 v i in (o.0, o.1, o.2, r.0 ∙ o.3))
+            | inl r ↦ (let o : WalkTo d e.from = q.1 e.from (from_in e h) in (e ∷ o.0, o.1, (h, sym r.0, o.2), (let f = o.3 in omega (arith, ints))))
+            | inr r ↦ (let o : WalkTo d v = q.1 v i in (o.0, o.1, o.2, r ∙ o.3))
           ]
 
   -- no walk of at most k edges is lighter than the distance of its end
@@ -100,16 +99,8 @@ module _ (n : ℕ) (es : List Edge) (within : Within n es) where
 pub greatest : GreatestSolution
 greatest n k es within h = ((stable_solution es (after n k es) h, λ v i. never_above n es within k v), below n es within k)
 
-so_true : (b : Bool) → (b ≡ false → ⊥) → b ≡ true
-so_true true f = refl
-so_true false f = absurd (f refl)
-
-so_false : (b : Bool) → (b ≡ true → ⊥) → b ≡ false
-so_false false f = refl
-so_false true f = absurd (f refl)
-
 pub exact_among : ExactAmong
-exact_among n k vs es within among b = (solved, cycle, λ x. so_true (is_stable es (after n k es)) (λ h. cycle_refutes es (cycle h) x), λ c. so_false (is_stable es (after n k es)) (λ h. cycle_refutes es c (solved h)), cycle_refutes es)
+exact_among n k vs es within among b = (solved, cycle, λ x. true_from_ne_false (is_stable es (after n k es)) (λ h. cycle_refutes es (cycle h) x), λ c. false_from_ne_true (is_stable es (after n k es)) (λ h. cycle_refutes es c (solved h)), cycle_refutes es)
   where
     solved : is_stable es (after n k es) ≡ true → Feasible es
     solved h = (at (after n k es), stable_solution es (after n k es) h)

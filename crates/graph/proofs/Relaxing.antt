@@ -1,46 +1,31 @@
 -- What relaxing an edge, a round and some rounds do to the distances.
-use Rattle.std.proofs.Common.{◌≡◌, ℕ, zero, suc, ◌<◌, Bool, true, false, cond, not, ◌&&◌, ◌≢◌, ◌⊎◌, List, [], ◌∷◌, length, set, ℤ, pos, ◌≤ℤ◌, ◌<ℤ◌, All, Contains, sym, refl, ap, ◌∙◌, subst, inl, inr, arith, length-set, get_or-set_other, get_or-set_same}
+use Rattle.std.proofs.Common.{◌≡◌, ℕ, zero, suc, ◌<◌, true, false, not, ◌⊎◌, List, [], ◌∷◌, length, ℤ, pos, ◌≤ℤ◌, ◌<ℤ◌, All, Contains, refl, ap, ◌∙◌, inl, inr, arith, length-set, get_or-set_other}
 use native.Mathlib.Decide.{ℕ_discrete}
 use lib.Signed.{≤ℤ_refl}
+use Rattle.std.proofs.lemmas.Bool.{and_cases, and_parts, cases_Bool, not-false, not-true}
+use Rattle.std.proofs.lemmas.Grind.{get_or-set_at}
 use Rattle.std.proofs.lemmas.Int.{ints}
 use Rattle.std.proofs.lemmas.List.Elements.{All-nil, All-cons, All-head, All-tail, All-weaker, All-contains_itself}
 use Rattle.graph.specs.declared.Edge.{Edge}
 use Rattle.graph.specs.Graph.{Within, EdgeHolds, Solution, at, through, lowers, relaxed, round, rounds, zeros, is_stable}
 use Rattle.graph.specs.Claims.{StableStays}
 
--- a write changes one vertex
-at_set : (d : List ℤ) (t v : ℕ) (x : ℤ) → t < length d → ((v ≡ t) × (at (set d t x) v ≡ x)) ⊎ ((v ≢ t) × (at (set d t x) v ≡ at d v))
-at_set d t v x h = elim (ℕ_discrete v t) [ yes e ↦ inl (e, subst (λ (i : ℕ). at (set d t x) i ≡ x) (sym e) (get_or-set_same d t x (pos 0) h)) | no f ↦ inr (f, get_or-set_other d t v x (pos 0) f) ]
-
--- an edge lowers its end, or holds already
-pub relaxed_cases : (e : Edge) (d : List ℤ) → ((through e d <ℤ at d e.to) × (relaxed e d ≡ set d e.to (through e d))) ⊎ ((at d e.to ≤ℤ through e d) × (relaxed e d ≡ d))
-relaxed_cases e d = go (lowers e d) refl
-  where
-    go : (b : Bool) → lowers e d ≡ b → ((through e d <ℤ at d e.to) × (relaxed e d ≡ set d e.to (through e d))) ⊎ ((at d e.to ≤ℤ through e d) × (relaxed e d ≡ d))
-    go true q = inl (grind (arith, ints), ap (λ (c : Bool). cond c (set d e.to (through e d)) d) q)
-    go false q = inr (grind (arith, ints), ap (λ (c : Bool). cond c (set d e.to (through e d)) d) q)
-
 pub relaxed_length : (e : Edge) (d : List ℤ) → length (relaxed e d) ≡ length d
-relaxed_length e d = elim (relaxed_cases e d) [ inl q ↦ ap length q.1 ∙ length-set d e.to (through e d) | inr q ↦ ap length q.1 ]
+relaxed_length e d = grind (arith, length-set {A = ℤ})
 
--- the distances r have v lowered along e, or as it was in d
-abbrev pub Lowered : Edge → List ℤ → ℕ → List ℤ → Type 0
-Lowered e d v r = (v ≡ e.to) × (through e d <ℤ at d e.to) × (at r v ≡ through e d)
-
-abbrev pub Kept : Edge → List ℤ → ℕ → List ℤ → Type 0
-Kept e d v r = (at r v ≡ at d v) × (v ≡ e.to → at d v ≤ℤ through e d)
-
-pub relaxed_at : (e : Edge) (d : List ℤ) (v : ℕ) → e.to < length d → Lowered e d v (relaxed e d) ⊎ Kept e d v (relaxed e d)
-relaxed_at e d v h = elim (relaxed_cases e d) [ inl q ↦ subst (λ (r : List ℤ). Lowered e d v r ⊎ Kept e d v r) (sym q.1) (written q.0) | inr q ↦ subst (λ (r : List ℤ). Lowered e d v r ⊎ Kept e d v r) (sym q.1) (inr (refl, λ s. subst (λ (i : ℕ). at d i ≤ℤ through e d) (sym s) q.0)) ]
-  where
-    written : through e d <ℤ at d e.to → Lowered e d v (set d e.to (through e d)) ⊎ Kept e d v (set d e.to (through e d))
-    written lt = elim (at_set d e.to v (through e d) h) [ inl s ↦ inl (s.0, lt, s.1) | inr s ↦ inr (s.1, λ y. absurd (s.0 y)) ]
+-- an edge lowers its end at most, and to what it allows
+pub relaxed_at : (e : Edge) (d : List ℤ) (v : ℕ) → e.to < length d → ((v ≡ e.to) × (at (relaxed e d) v ≡ through e d)) ⊎ (at (relaxed e d) v ≡ at d v)
+relaxed_at e d v h =
+    elim (cases_Bool (lowers e d)) [
+      | inl q ↦ elim (ℕ_discrete v e.to) [ yes s ↦ inl (s, grind (arith, get_or-set_at)) | no f ↦ inr (grind (arith, get_or-set_other)) ]
+      | inr q ↦ inr (grind arith)
+    ]
 
 pub relaxed_le : (e : Edge) (d : List ℤ) (v : ℕ) → e.to < length d → at (relaxed e d) v ≤ℤ at d v
-relaxed_le e d v h = elim (relaxed_at e d v h) [ inl q ↦ (let k : at d v ≡ at d e.to = ap (at d) q.0 in omega (arith, ints)) | inr q ↦ omega (arith, ints) ]
+relaxed_le e d v h = grind (arith, ints, get_or-set_at, get_or-set_other)
 
 relaxed_end : (e : Edge) (d : List ℤ) → e.to < length d → at (relaxed e d) e.to ≤ℤ through e d
-relaxed_end e d h = elim (relaxed_at e d e.to h) [ inl q ↦ omega (arith, ints) | inr q ↦ (let k : at d e.to ≤ℤ through e d = q.1 refl in omega (arith, ints)) ]
+relaxed_end e d h = grind (arith, ints, get_or-set_at)
 
 pub round_length : (es : List Edge) (d : List ℤ) → length (round es d) ≡ length d
 round_length [] d = refl
@@ -95,32 +80,27 @@ pub zeros_length : (n : ℕ) → length (zeros n) ≡ n
 zeros_length zero = refl
 zeros_length (suc n) = ap suc (zeros_length n)
 
-stable_parts : (b c : Bool) → (not b && c) ≡ true → (b ≡ false) × (c ≡ true)
-stable_parts true c h = (sym h, absurd (let z : ◌≡◌ {A = ℕ} 0 1 = cc in omega arith))
-stable_parts false c h = (refl, h)
-
-unstable_part : (b c : Bool) → (not b && c) ≡ false → (b ≡ true) ⊎ (c ≡ false)
-unstable_part true c h = inl refl
-unstable_part false c h = inr h
-
 pub stable_solution : (es : List Edge) (d : List ℤ) → is_stable es d ≡ true → Solution es (at d)
 stable_solution [] d h = All-nil _
 stable_solution (e ∷ es) d h =
-    let q : (lowers e d ≡ false) × (is_stable es d ≡ true) = stable_parts (lowers e d) (is_stable es d) h in
-    let s : lowers e d ≡ false = q.0 in
+    let q = and_parts (not (lowers e d)) (is_stable es d) h in
+    let s = not-true (lowers e d) q.0 in
     All-cons (EdgeHolds (at d)) e es (grind (arith, ints)) (stable_solution es d q.1)
 
 -- distances that are not stable have an edge that lowers its end
 pub unstable_edge : (es fs : List Edge) (d : List ℤ) → All (Contains es) fs → is_stable fs d ≡ false → (e : Edge) × Contains es e × (through e d <ℤ at d e.to)
-unstable_edge es [] d a h = absurd (let z : ◌≡◌ {A = ℕ} 0 1 = cc in omega arith)
-unstable_edge es (e ∷ fs) d a h = elim (unstable_part (lowers e d) (is_stable fs d) h) [ inl q ↦ (e, All-head (Contains es) e fs a, grind (arith, ints)) | inr q ↦ unstable_edge es fs d (All-tail (Contains es) e fs a) q ]
+unstable_edge es [] d a h = absurd cc
+unstable_edge es (e ∷ fs) d a h =
+    elim (and_cases (not (lowers e d)) (is_stable fs d) h) [
+      | inl q ↦ (e, All-head (Contains es) e fs a, (let s = not-false (lowers e d) q in grind (arith, ints)))
+      | inr q ↦ unstable_edge es fs d (All-tail (Contains es) e fs a) q
+    ]
 
 stable_round : (es : List Edge) (d : List ℤ) → is_stable es d ≡ true → round es d ≡ d
 stable_round [] d h = refl
 stable_round (e ∷ es) d h =
-    let q : (lowers e d ≡ false) × (is_stable es d ≡ true) = stable_parts (lowers e d) (is_stable es d) h in
-    let b : lowers e d ≡ false = q.0 in
-    rw b (stable_round es d q.1)
+    let q = and_parts (not (lowers e d)) (is_stable es d) h in
+    rw (not-true (lowers e d) q.0) (stable_round es d q.1)
 
 pub early : StableStays
 early zero es d h = refl

@@ -1,5 +1,5 @@
 -- What is known of a field that was noted, and of the state that follows.
-use Rattle.std.proofs.Common.{◌≡◌, ℕ, ◌+◌, ◌<◌, ◌≤◌, Bool, true, false, cond, [], ◌∷◌, ◌++◌, length, Some, None, Ok, Err, Option, sym, refl, ap, ◌∙◌, subst, append-nil, add-zero, arith}
+use Rattle.std.proofs.Common.{◌≡◌, ℕ, ◌+◌, ◌<◌, ◌≤◌, Bool, true, false, cond, List, [], ◌∷◌, ◌++◌, length, Some, None, Ok, Err, Option, sym, refl, ap, ◌∙◌, subst, append-nil, add-zero, arith}
 use Rattle.std.proofs.lemmas.List.{length_push}
 use Rattle.std.proofs.lemmas.Bool.{lt-ltb}
 use Rattle.sheet.specs.declared.fault.Cause.{Cause}
@@ -11,11 +11,21 @@ use Rattle.sheet.specs.Fields.{FieldValue, term_field, row_field}
 use Rattle.engine.specs.Calls.{◌or_else◌, codes_refusal, on_note_row, on_note_term, unless_refused}
 use Rattle.engine.specs.Refusals.{answer_in, term_refusal}
 use Rattle.engine.specs.States.{State, with_rows, with_terms}
-use Rattle.engine.specs.Terms.{is_dated, seats_of}
+use Rattle.sheet.specs.Terms.{is_dated}
+use Rattle.engine.specs.Terms.{seats_of}
 use Rattle.engine.proofs.Fitting.{few_seats, term_passes}
 use Rattle.engine.proofs.Seats.{seats_push}
-use Rattle.parts.specs.Noting.{after_field, field_answer, row_stands, is_row, load_letter, seat_of}
+use Rattle.parts.specs.Noting.{after_field, field_answer, row_stands, load_letter}
 use Rattle.engine.proofs.Using.{accepted_is}
+
+abbrev pub is_row : FieldValue → Bool
+is_row (term_field t l) = false
+is_row (row_field r) = true
+
+-- the seat that a field adds, as term n
+abbrev pub seat_of : ℕ → FieldValue → List ℕ
+seat_of n (term_field t l) = cond (is_dated t.kind) (n ∷ []) []
+seat_of n (row_field r) = []
 
 or_none : (a b : Option Cause) → (a or_else b) ≡ None → a ≡ None
 or_none None b e = refl

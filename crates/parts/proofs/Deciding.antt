@@ -11,7 +11,7 @@ use Rattle.sheet.specs.Fields.{FieldValue}
 use Rattle.sheet.specs.Parsing.{parse, remaining}
 use Rattle.engine.specs.Arrangements.{Before}
 use Rattle.engine.specs.States.{State, new_state}
-use Rattle.parts.specs.declared.note_sheet.Refusal.{Refusal}
+use Rattle.sheet.specs.declared.refusal.Refusal.{Refusal}
 use Rattle.parts.specs.First.{FirstCompletion}
 use Rattle.parts.specs.Noting.{RefusedAt, FieldsNoted, after_field, field_answer, front_answer, more, none}
 
@@ -65,14 +65,14 @@ module _ (letter : ℕ) (sheet : List ℕ) where
 
   -- a sheet that is noted whole is not refused
   pub not_refused : (s t : State) (e : Refusal) → FieldsNoted letter sheet s [] → RefusedAt letter sheet t e → ⊥
-  not_refused s t e x y = not_at_end e.place y.within (sym (one_end (from_start x) (from_start y.walk) (at_end s) (e.fault, y.stops)).1)
+  not_refused s t e x y = not_at_end e.place y.at.within (sym (one_end (from_start x) (from_start y.at.walk) (at_end s) (e.fault, y.at.stops)).1)
 
   pub same_refusal : (a b : Refusal) (s t : State) → RefusedAt letter sheet s a → RefusedAt letter sheet t b → a ≡ b
   same_refusal a b s t x y =
-      let w = one_end (from_start x.walk) (from_start y.walk) (a.fault, x.stops) (b.fault, y.stops) in
-      let place : a.place ≡ b.place = one_place a.place b.place x.within y.within w.1 in
-      let front : front_answer letter x.held (parse (drop a.place sheet)) ≡ front_answer letter y.held (parse (drop b.place sheet)) = λ i. front_answer letter (w.0 i) (parse (w.1 i)) in
-      let faults : ◌≡◌ {A = Result (Unit {0}) Fault} (Err a.fault) (Err b.fault) = sym x.stops ∙ front ∙ y.stops in
+      let w = one_end (from_start x.at.walk) (from_start y.at.walk) (a.fault, x.at.stops) (b.fault, y.at.stops) in
+      let place : a.place ≡ b.place = one_place a.place b.place x.at.within y.at.within w.1 in
+      let front : front_answer letter x.at.held (parse (drop a.place sheet)) ≡ front_answer letter y.at.held (parse (drop b.place sheet)) = λ i. front_answer letter (w.0 i) (parse (w.1 i)) in
+      let faults : ◌≡◌ {A = Result (Unit {0}) Fault} (Err a.fault) (Err b.fault) = sym x.at.stops ∙ front ∙ y.at.stops in
       let fault : a.fault ≡ b.fault = cc in
       λ i. record { fault = fault i; place = place i }
 

@@ -1,7 +1,6 @@
 mod Accepting
 mod Deciding
 mod Diagnosing
-mod Listing
 mod Placing
 mod Reporting
 mod Trying

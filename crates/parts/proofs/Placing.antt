@@ -1,6 +1,7 @@
 -- Seats placed one after another, each by the least code that keeps the engine open.
-use Rattle.std.proofs.Common.{◌≡◌, ℕ, ◌+◌, ◌-◌, ◌<◌, ◌≤◌, true, List, [], ◌∷◌, ◌++◌, length, Some, None, sym, refl, ap, ◌∙◌, subst, ⊎_elim, append_assoc, append-nil, arith, length-append}
+use Rattle.std.proofs.Common.{◌≡◌, ℕ, ◌-◌, ◌<◌, ◌≤◌, List, [], ◌∷◌, ◌++◌, length, Some, None, sym, refl, ap, ◌∙◌, subst, ⊎_elim, append_assoc, append-nil, arith, length-append}
 use Rattle.std.proofs.lemmas.List.{length_push}
+use Rattle.arrayvec.specs.ArrayVec.{ArrayVec}
 use Rattle.sheet.specs.declared.row.Row.{Row}
 use Rattle.sheet.specs.declared.term.Term.{Term}
 use Rattle.engine.specs.declared.engine.Engine.{Ghosts}
@@ -57,60 +58,54 @@ module _ (rule : List Term → List Row → List ℕ → Type 0) (s : State) whe
       let w = stop b.completed.rest b.completed.full b.completed.allowed in
       record { full = w.0; allowed = w.1; first = b.none_before }
 
--- the engine a was open; the engine x holds what it holds with the codes `more` on top, and they follow those in the list `held`
-pub record Placing {X : Type 0} (f : Ghosts X) (a x : X) (held codes : List ℕ) : Type 0 where
-  pub more : List ℕ
-  pub state_is : f.state x ≡ with_codes (f.state a) ((f.state a).codes ++ more)
+-- the engine a was open; the engine x holds what it holds with these codes on top
+pub record Placing {X : Type 0} (f : Ghosts X) (a x : X) (codes : List ℕ) : Type 0 where
+  pub state_is : f.state x ≡ with_codes (f.state a) ((f.state a).codes ++ codes)
   pub kept : f.setting x ≡ f.setting a
-  pub listed : codes ≡ held ++ more
-  pub begun : Begun (f.rule (f.setting a)) (f.state a) more
+  pub begun : Begun (f.rule (f.setting a)) (f.state a) codes
 
-pub placing_start : {X : Type 0} (f : Ghosts X) (a : X) (held : List ℕ) → Completion (f.rule (f.setting a)) (f.state a) → Placing f a a held held
-placing_start f a held k = record {
-  more = [];
+pub placing_start : {X : Type 0} (f : Ghosts X) (a : X) → Completion (f.rule (f.setting a)) (f.state a) → Placing f a a []
+placing_start f a k = record {
   state_is = ap (with_codes (f.state a)) (sym (append-nil (f.state a).codes));
   kept = refl;
-  listed = sym (append-nil held);
   begun = begin (f.rule (f.setting a)) (f.state a) k;
 }
 
-module _ {X : Type 0} (f : Ghosts X) (a x : X) (held codes : List ℕ) (p : Placing f a x held codes) where
+module _ {X : Type 0} (f : Ghosts X) (a x : X) (codes : ArrayVec ℕ) (p : Placing f a x codes.items) where
   pub same_terms : (f.state x).terms ≡ (f.state a).terms
   same_terms = ap (λ (q : State). q.terms) p.state_is
 
-  now_codes : (f.state x).codes ≡ (f.state a).codes ++ p.more
+  now_codes : (f.state x).codes ≡ (f.state a).codes ++ codes.items
   now_codes = ap (λ (q : State). q.codes) p.state_is
 
-  moved : (c : ℕ) → with_code (f.state x) c ≡ with_codes (f.state a) (((f.state a).codes ++ p.more) ++ c ∷ [])
+  moved : (c : ℕ) → with_code (f.state x) c ≡ with_codes (f.state a) (((f.state a).codes ++ codes.items) ++ c ∷ [])
   moved c = ap (λ (q : State). with_code q c) p.state_is
 
-  here : (c : ℕ) → Completion (f.rule (f.setting x)) (with_code (f.state x) c) → Completion (f.rule (f.setting a)) (with_codes (f.state a) (((f.state a).codes ++ p.more) ++ c ∷ []))
-  here c k = subst (λ n. Completion (f.rule n) (with_codes (f.state a) (((f.state a).codes ++ p.more) ++ c ∷ []))) p.kept (subst (Completion (f.rule (f.setting x))) (moved c) k)
+  here : (c : ℕ) → Completion (f.rule (f.setting x)) (with_code (f.state x) c) → Completion (f.rule (f.setting a)) (with_codes (f.state a) (((f.state a).codes ++ codes.items) ++ c ∷ []))
+  here c k = subst (λ n. Completion (f.rule n) (with_codes (f.state a) (((f.state a).codes ++ codes.items) ++ c ∷ []))) p.kept (subst (Completion (f.rule (f.setting x))) (moved c) k)
 
-  there : (c : ℕ) → Completion (f.rule (f.setting a)) (with_codes (f.state a) (((f.state a).codes ++ p.more) ++ c ∷ [])) → Completion (f.rule (f.setting x)) (with_code (f.state x) c)
+  there : (c : ℕ) → Completion (f.rule (f.setting a)) (with_codes (f.state a) (((f.state a).codes ++ codes.items) ++ c ∷ [])) → Completion (f.rule (f.setting x)) (with_code (f.state x) c)
   there c k = subst (λ n. Completion (f.rule n) (with_code (f.state x) c)) (sym p.kept) (subst (Completion (f.rule (f.setting a))) (sym (moved c)) k)
 
   -- place_least answered None
-  pub placing_end : (y : X) → LeastPlaced (f.rule (f.setting x)) (f.state x) (f.state y) None → FirstPlaced (f.rule (f.setting a)) (f.state a) (f.state y) held codes true
-  placing_end y h = (p.more, end (f.rule (f.setting a)) (f.state a) p.more p.begun (λ c k. h.0 c (there c k)), h.1 ∙ p.state_is, p.listed)
+  pub placing_end : (y : X) → LeastPlaced (f.rule (f.setting x)) (f.state x) (f.state y) None → FirstPlaced (f.rule (f.setting a)) (f.state a) (f.state y) (Some codes)
+  placing_end y h = (end (f.rule (f.setting a)) (f.state a) codes.items p.begun (λ c k. h.0 c (there c k)), h.1 ∙ p.state_is)
 
   -- place_least answered a code, which was pushed
   module _ (y : X) (c : ℕ) (h : LeastPlaced (f.rule (f.setting x)) (f.state x) (f.state y) (Some c)) where
-    pub placing_next : (codes' : List ℕ) → f.setting y ≡ f.setting x → codes' ≡ codes ++ c ∷ [] → Placing f a y held codes'
-    placing_next codes' same pushed = record {
-      more = p.more ++ c ∷ [];
-      state_is = h.2 ∙ moved c ∙ ap (with_codes (f.state a)) (append_assoc (f.state a).codes p.more (c ∷ []));
+    pub placing_next : (longer : List ℕ) → f.setting y ≡ f.setting x → longer ≡ codes.items ++ c ∷ [] → Placing f a y longer
+    placing_next longer same pushed = subst (Placing f a y) (sym pushed) (record {
+      state_is = h.2 ∙ moved c ∙ ap (with_codes (f.state a)) (append_assoc (f.state a).codes codes.items (c ∷ []));
       kept = same ∙ p.kept;
-      listed = pushed ∙ ap (λ ds. ds ++ c ∷ []) p.listed ∙ append_assoc held p.more (c ∷ []);
-      begun = go_on (f.rule (f.setting a)) (f.state a) p.more c p.begun (here c h.0) (λ d l k. h.1 d l (there d k));
-    }
+      begun = go_on (f.rule (f.setting a)) (f.state a) codes.items c p.begun (here c h.0) (λ d l k. h.1 d l (there d k));
+    })
 
     -- a seat was left
     pub seat_left : length (f.state x).codes < length (seats_of (f.state a).terms)
     seat_left = subst (λ ts. length (f.state x).codes < length (seats_of ts)) same_terms (fitting (f.rule (f.setting x)) (f.state x) c h.0).0
 
-    pub room_left : length (seats_of (f.state a).terms) ≤ 8 → length codes < length held + 8
-    room_left few = omega (arith, seat_left, ap length now_codes, length-append (f.state a).codes p.more, ap length p.listed, length-append held p.more)
+    pub room_left : length (seats_of (f.state a).terms) ≤ 8 → length codes.items < 8
+    room_left few = omega (arith, seat_left, ap length now_codes, length-append (f.state a).codes codes.items)
 
     pub fewer_left : length (seats_of (f.state a).terms) - length (f.state y).codes < length (seats_of (f.state a).terms) - length (f.state x).codes
     fewer_left = omega (arith, seat_left, ap (λ (q : State). length q.codes) h.2, length_push (f.state x).codes c)

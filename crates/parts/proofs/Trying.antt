@@ -1,18 +1,30 @@
 -- Codes tried one after another at the next seat.
-use Rattle.std.proofs.Common.{◌≡◌, ℕ, ◌+◌, ◌*◌, ◌<◌, ◌≤◌, true, List, [], ◌∷◌, ◌++◌, length, Some, None, sym, refl, ap, ◌∙◌, subst, ⊎_elim, append_assoc, arith, length-append}
+use Rattle.std.proofs.Common.{◌≡◌, ℕ, ◌+◌, ◌*◌, ◌<◌, ◌≤◌, true, List, [], ◌∷◌, ◌++◌, length, Some, None, Option, sym, refl, ap, ◌∙◌, subst, ⊎_elim, append_assoc, arith, length-append}
 use Rattle.std.proofs.lemmas.List.{length_push}
 use Rattle.std.proofs.lemmas.Bool.{cases_order}
+use Rattle.std.proofs.lemmas.Option.{none-some}
+use Rattle.std.specs.Result.{result_ok}
 use Rattle.sheet.specs.declared.fault.Cause.{Cause}
 use Rattle.sheet.specs.declared.row.Row.{Row}
 use Rattle.sheet.specs.declared.term.Term.{Term}
 use Rattle.engine.specs.declared.engine.Engine.{Ghosts}
 use Rattle.engine.specs.Arrangements.{blocks, is_valid}
 use Rattle.engine.specs.Calls.{on_lift, on_place}
+use Rattle.engine.specs.Refusals.{answer_in}
 use Rattle.engine.specs.States.{State, Completion, with_code}
 use Rattle.engine.specs.Terms.{seats_of}
 use Rattle.parts.specs.First.{LeastPlaced}
 use Rattle.engine.proofs.Codes.{valid_low}
 use Rattle.engine.proofs.Using.{fits, fits_not, lifted, not_placed, placed}
+
+-- whether a call answers something tells whether it was refused
+pub taken : (letter : ℕ) (o : Option Cause) (u : Unit {0}) → result_ok (answer_in letter o) ≡ Some u → o ≡ None
+taken letter None u e = refl
+taken letter (Some c) u e = absurd (none-some u e)
+
+pub turned_away : (letter : ℕ) (o : Option Cause) → result_ok (answer_in letter o) ≡ None → (z : Cause) × (o ≡ Some z)
+turned_away letter None e = absurd (none-some tt (sym e))
+turned_away letter (Some c) e = (c, refl)
 
 -- a code that keeps an engine open finds a seat left, and is not too high
 pub fitting : (rule : List Term → List Row → List ℕ → Type 0) (s : State) (c : ℕ) → Completion rule (with_code s c) → (length s.codes < length (seats_of s.terms)) × (c ≤ 2 * blocks s.codes)

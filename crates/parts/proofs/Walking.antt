@@ -1,15 +1,21 @@
 -- A walk over the fields of a sheet, each noted in an engine.
 use Rattle.std.proofs.Common.{◌≡◌, ℕ, ◌+◌, ◌-◌, ◌<◌, ◌≤◌, Bool, true, false, cond, List, [], ◌∷◌, ◌++◌, length, Ok, Err, Result, sym, refl, ap, ◌∙◌, subst, arith, length-append}
-use Rattle.std.proofs.lemmas.List.{nil_from_length}
+use Rattle.std.specs.Result.{is_ok}
 use Rattle.sheet.specs.declared.fault.Fault.{Fault}
-use Rattle.sheet.specs.Fields.{FieldValue}
+use Rattle.sheet.specs.declared.refusal.Refusal.{Refusal}
+use Rattle.sheet.specs.declared.fault.Cause.TheVariants.{TermAfterRow}
+use Rattle.sheet.specs.declared.term.Term.{Term}
+use Rattle.sheet.specs.Causes.{fault_in}
+use Rattle.sheet.specs.Fields.{FieldValue, term_field}
 use Rattle.sheet.specs.Parsing.{parse}
-use Rattle.sheet.proofs.Taking.{IsLeft, Took, left_after, left_at_start}
+use Rattle.sheet.specs.Left.{IsLeft}
+use Rattle.sheet.specs.Walks.{Took}
+use Rattle.engine.specs.Calls.{on_note_term}
+use Rattle.engine.specs.Refusals.{answer_in}
 use Rattle.engine.specs.States.{State, new_state}
 use Rattle.engine.specs.Terms.{seats_of}
-use Rattle.parts.specs.declared.note_sheet.Refusal.{Refusal}
-use Rattle.parts.specs.Noting.{RefusedAt, SheetNoted, FieldsNoted, WholeNoted, after_field, field_answer, front_answer, row_stands, is_row, more, none, seat_of}
-use Rattle.parts.proofs.Accepting.{Accepted, Sound, accepted}
+use Rattle.parts.specs.Noting.{FieldsNoted, StopsAt, WholeNoted, after_field, field_answer, front_answer, load_letter, row_stands, more, none}
+use Rattle.parts.proofs.Accepting.{Accepted, Sound, accepted, is_row, seat_of}
 
 -- no more than 8 seats and 32 terms, and no code is placed
 pub sound : {letter : ℕ} {sheet : List ℕ} {s : State} {left : List ℕ} → FieldsNoted letter sheet s left → Sound s
@@ -20,7 +26,6 @@ sound {letter = letter} (more {s = t} {f = f} w read ok) = (accepted letter t f 
 pub record Walked (letter : ℕ) (s t : List ℕ) (q : State) (terms : ℕ) (rowed : Bool) (seats : List ℕ) : Type 0 where
   pub walk : FieldsNoted letter s q t
   pub long : length t ≤ length s
-  pub place : IsLeft s t
   pub count : terms ≡ length q.terms
   pub rows : rowed ≡ row_stands q
   pub listed : seats ≡ seats_of q.terms
@@ -30,7 +35,6 @@ start letter s q seats e listed =
     record {
       walk = subst (λ x. FieldsNoted letter s x s) (sym e) none;
       long = omega arith;
-      place = left_at_start s;
       count = ap (λ (x : State). length x.terms) (sym e);
       rows = ap row_stands (sym e);
       listed = listed ∙ ap (λ (x : State). seats_of x.terms) (sym e);
@@ -59,34 +63,39 @@ module _ (letter : ℕ) (s t : List ℕ) (q : State) (terms : ℕ) (rowed : Bool
         record {
           walk = subst (λ x. FieldsNoted letter s x u) (sym e) (subst (FieldsNoted letter s (after_field q f)) (sym k.rest) (more w.walk k.read (sym ok)));
           long = omega arith;
-          place = left_after s t u f w.long w.place k;
           count = counted ∙ ap (λ n. n + cond (is_row f) 0 1) w.count ∙ sym now_accepted.counted ∙ ap (λ (x : State). length x.terms) (sym e);
           rows = row ∙ sym now_accepted.rows ∙ ap row_stands (sym e);
           listed = listed ∙ sym seats_then ∙ ap (λ (x : State). seats_of x.terms) (sym e);
         }
 
   -- no byte is left
-  pub whole : length t ≡ 0 → WholeNoted letter s q seats
-  whole none_left = record { walk = subst (FieldsNoted letter s q) (nil_from_length t none_left) w.walk; listed = w.listed }
+  pub whole : t ≡ [] → WholeNoted letter s q seats
+  whole none_left = record { walk = subst (FieldsNoted letter s q) none_left w.walk; listed = w.listed }
 
-  -- what is left is refused, and the engine holds p then
-  pub refused : (p : State) (fault : Fault) (r : Result (Unit {0}) Refusal) → (length t ≡ 0 → ⊥) → front_answer letter q (parse t) ≡ Err fault → r ≡ Err (record { fault = fault; place = length s - length t }) → p ≡ new_state → SheetNoted letter s p seats r
-  refused p fault r some stops answer new =
+  -- what is left is refused
+  pub stops_at : (fault : Fault) (e : Refusal) → (length t ≡ 0 → ⊥) → IsLeft s t → front_answer letter q (parse t) ≡ Err fault → e ≡ record { fault = fault; place = length s - length t } → StopsAt letter s e
+  stops_at fault e some left stops is =
       let long = w.long in
-      let left : 0 < length t = omega arith in
-      let e : Refusal = record { fault = fault; place = length s - length t } in
-      let at : RefusedAt letter s p e = record {
+      let more : 0 < length t = omega arith in
+      let at : StopsAt letter s (record { fault = fault; place = length s - length t }) = record {
         held = q;
-        walk = subst (FieldsNoted letter s q) w.place w.walk;
+        walk = subst (FieldsNoted letter s q) left w.walk;
         within = omega arith;
-        stops = ap (λ x. front_answer letter q (parse x)) (sym w.place) ∙ stops;
-        new = new;
+        stops = ap (λ x. front_answer letter q (parse x)) (sym left) ∙ stops;
       } in
-      subst (SheetNoted letter s p seats) (sym answer) at
+      subst (StopsAt letter s) (sym is) at
 
--- zero is the first seat
-pub first_listed : (old new : List ℕ) → old ≡ [] → new ≡ old ++ 0 ∷ [] → new ≡ 0 ∷ []
-first_listed old new none_yet e = e ∙ ap (λ xs. xs ++ 0 ∷ []) none_yet
+-- a call that answered Ok was not refused
+pub ok_is : (r : Result (Unit {0}) Fault) → is_ok r ≡ true → r ≡ Ok tt
+ok_is (Ok u) e = refl
+ok_is (Err f) e = cc
+
+-- a term that was noted stands before every row
+pub no_row : (letter : ℕ) (q : State) (t : Term) (l : List ℕ) → Ok tt ≡ field_answer letter q (term_field t l) → row_stands q ≡ false
+no_row letter q t l ok =
+    let go : (b : Bool) → Ok tt ≡ cond b (Err (fault_in load_letter TermAfterRow)) (answer_in letter (on_note_term q t).refusal) → b ≡ false =
+    elim [ true ↦ λ e. absurd (let z : ◌≡◌ {A = ℕ} 0 1 = cc in omega arith) | false ↦ λ e. refl ] in
+    go (row_stands q) ok
 
 -- a row does not count as a term
 pub row_counts : (n : ℕ) (b : Bool) → b ≡ true → n ≡ n + cond b 0 1

@@ -1,5 +1,6 @@
 -- The first arrangement that an engine allows, and what placing the seats comes to.
-use Rattle.std.specs.Prelude.{◌≡◌, ℕ, ◌<◌, Bool, true, false, List, ◌++◌, length, Some, None, Option}
+use Rattle.std.specs.Prelude.{◌≡◌, ℕ, ◌<◌, List, ◌++◌, length, Some, None, Option}
+use Rattle.arrayvec.specs.ArrayVec.{ArrayVec}
 use Rattle.sheet.specs.declared.row.Row.{Row}
 use Rattle.sheet.specs.declared.term.Term.{Term}
 use Rattle.engine.specs.Arrangements.{Arrangement, Before}
@@ -19,8 +20,7 @@ module _ (rule : List Term → List Row → List ℕ → Type 0) (s : State) whe
   LeastPlaced t None = ((c : ℕ) → Completion rule (with_code s c) → ⊥) × (t ≡ s)
   LeastPlaced t (Some c) = Completion rule (with_code s c) × ((d : ℕ) → d < c → Completion rule (with_code s d) → ⊥) × (t ≡ with_code s c)
 
-  -- the seats that are left are placed by the first arrangement, and its codes follow those that were held; or there is none.
-  -- The engine holds t then, and `codes` are held
-  abbrev pub FirstPlaced : State → List ℕ → List ℕ → Bool → Type 0
-  FirstPlaced t held codes true = (rest : List ℕ) × FirstCompletion rest × (t ≡ with_codes s (s.codes ++ rest)) × (codes ≡ held ++ rest)
-  FirstPlaced t held codes false = (Completion rule s → ⊥) × (t ≡ s) × (codes ≡ held)
+  -- the seats that are left are placed by the first arrangement, with these codes; or there is none. The engine holds t then
+  abbrev pub FirstPlaced : State → Option (ArrayVec ℕ) → Type 0
+  FirstPlaced t None = (Completion rule s → ⊥) × (t ≡ s)
+  FirstPlaced t (Some codes) = FirstCompletion codes.items × (t ≡ with_codes s (s.codes ++ codes.items))

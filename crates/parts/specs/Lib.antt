@@ -1,3 +1,4 @@
+pub mod Seats
 pub mod First
 pub mod Noting
 pub mod Diagnoses

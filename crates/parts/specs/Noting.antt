@@ -1,23 +1,20 @@
 -- The fields of a sheet, noted one after another in a new engine.
-use Rattle.std.specs.Prelude.{◌≡◌, ℕ, ◌<◌, Bool, true, false, if◌then◌else◌, List, [], ◌∷◌, length, drop, Ok, Err, Result, nat_lt}
+use Rattle.std.specs.Prelude.{◌≡◌, ℕ, ◌<◌, Bool, if◌then◌else◌, List, [], length, drop, Ok, Err, Result, nat_lt}
+use Rattle.arrayvec.specs.ArrayVec.{ArrayVec}
 use Rattle.sheet.specs.declared.fault.Cause.TheVariants.{TermAfterRow}
 use Rattle.sheet.specs.declared.fault.Fault.{Fault}
+use Rattle.sheet.specs.declared.refusal.Refusal.{Refusal}
 use Rattle.sheet.specs.Causes.{fault_in}
 use Rattle.sheet.specs.Fields.{FieldValue, term_field, row_field}
 use Rattle.sheet.specs.Parsing.{parse, remaining}
 use Rattle.engine.specs.Calls.{on_note_row, on_note_term}
 use Rattle.engine.specs.Refusals.{answer_in}
 use Rattle.engine.specs.States.{State, new_state}
-use Rattle.engine.specs.Terms.{is_dated, seats_of}
-use Rattle.parts.specs.declared.note_sheet.Refusal.{Refusal}
+use Rattle.engine.specs.Terms.{seats_of}
 
 -- L, the letter of the layer that takes a whole sheet
 abbrev pub load_letter : ℕ
 load_letter = 76
-
-abbrev pub is_row : FieldValue → Bool
-is_row (term_field t l) = false
-is_row (row_field r) = true
 
 -- a row field stands before: each one that is noted adds a row
 abbrev pub row_stands : State → Bool
@@ -43,24 +40,23 @@ pub data FieldsNoted (letter : ℕ) (sheet : List ℕ) : State → List ℕ → 
   none : FieldsNoted letter sheet new_state sheet
   more : {s : State} {left : List ℕ} {f : FieldValue} → FieldsNoted letter sheet s left → parse left ≡ Ok f → field_answer letter s f ≡ Ok tt → FieldsNoted letter sheet (after_field s f) (remaining left)
 
--- the seat that a field adds, as term n
-abbrev pub seat_of : ℕ → FieldValue → List ℕ
-seat_of n (term_field t l) = if is_dated t.kind then n ∷ [] else []
-seat_of n (row_field r) = []
-
 -- every byte belongs to a field that was noted: the engine holds t then, and `seats` lists its dated terms
 pub record WholeNoted (letter : ℕ) (sheet : List ℕ) (t : State) (seats : List ℕ) : Type 0 where
   pub walk : FieldsNoted letter sheet t []
   pub listed : seats ≡ seats_of t.terms
 
--- the fields before the place were noted, and the one that starts there is refused: the engine is new then
-pub record RefusedAt (letter : ℕ) (sheet : List ℕ) (t : State) (e : Refusal) : Type 0 where
+-- the fields before the place are accepted in a new engine, and the one that starts there is refused
+pub record StopsAt (letter : ℕ) (sheet : List ℕ) (e : Refusal) : Type 0 where
   pub held : State
   pub walk : FieldsNoted letter sheet held (drop e.place sheet)
   pub within : e.place < length sheet
   pub stops : front_answer letter held (parse (drop e.place sheet)) ≡ Err e.fault
+
+-- and the engine is new then
+pub record RefusedAt (letter : ℕ) (sheet : List ℕ) (t : State) (e : Refusal) : Type 0 where
+  pub at : StopsAt letter sheet e
   pub new : t ≡ new_state
 
-abbrev pub SheetNoted : ℕ → List ℕ → State → List ℕ → Result (Unit {0}) Refusal → Type 0
-SheetNoted letter sheet t seats (Ok u) = WholeNoted letter sheet t seats
-SheetNoted letter sheet t seats (Err e) = RefusedAt letter sheet t e
+abbrev pub SheetNoted : ℕ → List ℕ → State → Result (ArrayVec ℕ) Refusal → Type 0
+SheetNoted letter sheet t (Ok seats) = WholeNoted letter sheet t seats.items
+SheetNoted letter sheet t (Err e) = RefusedAt letter sheet t e

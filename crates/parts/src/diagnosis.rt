@@ -1,54 +1,54 @@
 // Whether an engine that dates can meet a sheet.
-ghost use Rattle.std.specs.Prelude.{◌≡◌, ◌≤◌, [], vec_capacity};
+ghost use Rattle.std.specs.Prelude.{◌≡◌};
 ghost use Rattle.parts.specs.Diagnoses.{Diagnosed};
+ghost use Rattle.parts.specs.Seats.{seats_with};
 
-use crate::note_sheet::{Refusal, note_sheet};
+use crate::note_sheet::note_sheet;
 use crate::place_first::place_first;
+use crate::seat::Seat;
+use arrayvec::ArrayVec;
 use engine::dating::Dating;
 use engine::engine::Engine;
+use engine::limits::MAX_SEATS;
+use sheet::refusal::Refusal;
 
-#[derive(Drop)]
-pub enum Diagnosis {
-    // By the first arrangement that is allowed: for each seat its code, the index of its term, and its date.
-    Met {
-        codes: Vec<u8>,
-        seats: Vec<u8>,
-        dates: [i64; 8],
-    },
-    // No arrangement is allowed.
-    Unmet,
-    Refused(Refusal),
-}
+// The seats in the first arrangement that is allowed, or nothing where none is; or why the sheet is refused.
+pub type Diagnosis = Result<Option<ArrayVec<Seat, MAX_SEATS>>, Refusal>;
 
-// Notes the sheet in the engine, places the seats and dates them. The two vectors are filled, and need no more room than they bring.
-pub(crate) fn diagnose<E: Dating>(
-    engine: &mut E,
-    sheet: &[u8],
-    mut seats: Vec<u8>,
-    mut codes: Vec<u8>,
-) -> Diagnosis
-    requires no_seats { seats.items ≡ [] }
-    requires seat_room { 8 ≤ vec_capacity seats }
-    requires no_codes { codes.items ≡ [] }
-    requires code_room { 8 ≤ vec_capacity codes }
+// Notes the sheet in the engine, places the seats and dates them. The clause names what the engine means part by part, as the
+// interface has it: one ghost member for the four would be one more thing that each engine has to write.
+pub(crate) fn diagnose<E: Dating>(engine: &mut E, sheet: &[u8]) -> Diagnosis
     ensures tells { let made_with = E.setting engine.old in
         Diagnosed (E.rule made_with) E.counts (E.picks made_with) E.LETTER sheet.now (E.state engine.new) result }
     ensures keeps { E.setting engine.new ≡ E.setting engine.old }
 {
-    match note_sheet(engine, sheet, &mut seats) {
-        Ok(_) => {}
-        Err(refusal) => return Diagnosis::Refused(refusal),
-    }
-    if !place_first(engine, &mut codes) {
-        return Diagnosis::Unmet;
-    }
+    let terms = note_sheet(engine, sheet)?;
+    let Some(codes) = place_first(engine) else {
+        return Ok(None);
+    };
     match engine.dates() {
-        Ok(dates) => Diagnosis::Met {
-            codes,
-            seats,
-            dates,
-        },
+        Ok(dates) => Ok(Some(list_seats(&terms, codes.as_slice(), dates.as_slice()))),
         // It does not come to this: every seat is placed, and the arrangement is allowed.
-        Err(_) => Diagnosis::Unmet,
+        Err(_) => Ok(None),
     }
+}
+
+// The seats with these terms, codes and dates, in the order of their places.
+fn list_seats(
+    terms: &ArrayVec<u8, MAX_SEATS>,
+    codes: &[u8],
+    dates: &[i64],
+) -> ArrayVec<Seat, MAX_SEATS>
+    ensures { result.items ≡ seats_with terms.now.items codes.now dates.now }
+{
+    let mut seats = ArrayVec::new();
+    for (place, ((term, code), date)) in terms.iter().zip(codes).zip(dates).enumerate() {
+        seats.push(Seat {
+            place,
+            term: *term,
+            code: *code,
+            date: *date,
+        });
+    }
+    seats
 }

@@ -6,16 +6,12 @@ mod diagnosis;
 mod note_sheet;
 mod place_first;
 mod report;
-mod words;
+mod seat;
 
-use crate::diagnosis::Diagnosis;
 use crate::report::report_sheet;
 use engine::dating::Dating;
-use program::arguments::asks_for_help;
-use program::causes::cause_in_words;
-use program::input::read_sheet;
+use program::host::Program;
 use span::span::Span;
-use std::io;
 
 const HELP: &str = "usage: parts < SHEET
 
@@ -36,33 +32,29 @@ fn main(rt: HostRuntime) -> anyhow::Result<()> {
 }
 
 fn run(rt: &HostRuntime) -> anyhow::Result<()> {
-    if asks_for_help(rt, "parts")? {
-        println!(rt; "{HELP}")?;
+    let program = Program {
+        rt,
+        name: "parts",
+        help: HELP,
+    };
+    let Some(sheet) = program.sheet()? else {
         return Ok(());
-    }
-    let sheet = read_sheet(rt, "parts")?;
-    if sheet.is_empty() {
-        eprintln!(rt; "parts: no bytes came in\n{HELP}")?;
-    }
+    };
     let mut engine = Span::new(rt.alloc())?;
-    print_report(rt, &mut engine, sheet.as_slice())
+    print_report(&program, &mut engine, sheet.as_slice())
 }
 
 // Prints what the engine says of the sheet.
-fn print_report<E: Dating>(rt: &HostRuntime, engine: &mut E, sheet: &[u8]) -> anyhow::Result<()> {
-    let report = report_sheet(rt.alloc(), engine, sheet)?;
+fn print_report<E: Dating>(
+    program: &Program<'_>,
+    engine: &mut E,
+    sheet: &[u8],
+) -> anyhow::Result<()> {
+    let report = report_sheet(program.rt.alloc(), engine, sheet)?;
     let text = report.text.as_str();
-    println!(rt; "{text}")?;
-    explain(rt, &report.diagnosis)?;
-    Ok(())
-}
-
-// Why a field was refused, for a person.
-fn explain(rt: &HostRuntime, diagnosis: &Diagnosis) -> io::Result<()> {
-    if let Diagnosis::Refused(refusal) = diagnosis {
-        let place = refusal.place;
-        let why = cause_in_words(refusal.fault.cause);
-        eprintln!(rt; "parts: the field that starts at byte {place}: {why}")?;
+    println!(program.rt; "{text}")?;
+    if let Err(refusal) = report.diagnosis {
+        program.explain(refusal)?;
     }
     Ok(())
 }

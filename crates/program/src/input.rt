@@ -6,7 +6,7 @@ use std::io;
 use std::io::Read;
 
 // Only so many bytes of the input are read.
-const LIMIT: usize = 8192;
+pub(crate) const LIMIT: usize = 8192;
 
 // The first bytes that a reader gives, up to 8,192.
 pub fn read_first<R: Read + Drop>(heap: Global, reader: R) -> io::Result<Vec<u8>>
@@ -18,16 +18,5 @@ pub fn read_first<R: Read + Drop>(heap: Global, reader: R) -> io::Result<Vec<u8>
     reader.take(LIMIT as u64).read_to_end(&mut sheet)?;
     // Where a reader's bytes are not known beforehand, `take` promises no length to the proof.
     sheet.truncate(LIMIT);
-    Ok(sheet)
-}
-
-// The first bytes of standard input. Where more may follow, a person is told that they are not read.
-pub fn read_sheet(rt: &HostRuntime, program: &str) -> io::Result<Vec<u8>>
-    ensures { IfOk result (λ sheet. vec_len sheet ≤ 8192) }
-{
-    let sheet = read_first(rt.alloc(), rt.stdin())?;
-    if sheet.len() == LIMIT {
-        eprintln!(rt; "{program}: {LIMIT} bytes came in, and no more are read")?;
-    }
     Ok(sheet)
 }

@@ -101,8 +101,13 @@ written_within f before n e =
     omega (arith, simp length-append at (ap length bytes.1))
 
 -- what was written is read back
-pub reads_back : (f : FieldValue) (n : ℕ) (before after : List ℕ) → RowFits f → leaving (Ok n) after ≡ written f before → ReadBack f before after (Ok n)
-reads_back f n before after fits e =
+pub read_back : (f : FieldValue) (n : ℕ) (before after : List ℕ) → RowFits f → leaving (Ok n) after ≡ written f before → ReadBack f before after (Ok n)
+read_back f n before after fits e =
     let sound = written_sound f n before after fits e in
     let bytes = written_bytes f n before after e in
     (ap parse bytes.1 ∙ ap (in_layer reader_letter) (field_read f (drop n before) sound), ap remaining bytes.1 ∙ rest_left f (drop n before) sound)
+
+-- the same of what the writer's layer answers
+pub reads_back : (f : FieldValue) (before after : List ℕ) → RowFits f → (r : Result ℕ Cause) → leaving r after ≡ written f before → ReadBack f before after (in_layer reader_letter r)
+reads_back f before after fits (Ok n) e = read_back f n before after fits e
+reads_back f before after fits (Err c) e = tt

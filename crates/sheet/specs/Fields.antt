@@ -1,7 +1,8 @@
 -- The bytes of a field: a tag, the content's length in two bytes, high byte first, and the content.
-use Rattle.std.specs.Prelude.{ℕ, ◌/◌, ◌%◌, Bool, true, ◌&&◌, List, [], ◌∷◌, ◌++◌, length, ℤ, nat_le}
+use Rattle.std.specs.Prelude.{ℕ, ◌/◌, ◌%◌, Bool, ◌&&◌, List, [], ◌∷◌, ◌++◌, length, ℤ, nat_le}
 use Rattle.std.proofs.Common.{of_z}
 use Rattle.std.specs.Int.{w32}
+use Rattle.std.specs.List.{list_all}
 use Rattle.sheet.specs.declared.field.Field.{Field}
 use Rattle.sheet.specs.declared.field.Field.TheVariants.{Term as TermOf, Row as RowOf}
 use Rattle.sheet.specs.declared.row.Row.{Row}
@@ -89,10 +90,6 @@ bytes_of f = framed (tag_of f) (body_of f)
 abbrev pub is_visible : ℕ → Bool
 is_visible b = nat_le 33 b && nat_le b 126
 
-abbrev pub all_visible : List ℕ → Bool
-all_visible [] = true
-all_visible (b ∷ bs) = is_visible b && all_visible bs
-
 -- a label is 1 to 12 visible bytes
 abbrev pub is_label : List ℕ → Bool
-is_label l = nat_le 1 (length l) && (nat_le (length l) 12 && all_visible l)
+is_label l = nat_le 1 (length l) && (nat_le (length l) 12 && list_all is_visible l)

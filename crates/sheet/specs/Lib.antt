@@ -4,3 +4,6 @@ pub mod Fields
 pub mod Parsing
 pub mod Encoding
 pub mod RoundTrips
+pub mod Words
+pub mod Left
+pub mod Walks

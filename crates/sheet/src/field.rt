@@ -3,7 +3,7 @@ use crate::row::Row;
 use crate::term::Term;
 
 // The label is borrowed: of a field that was read it is a part of the sheet.
-#[derive(Clone, Copy)]
+#[derive(Clone, Copy, Debug, PartialEq, Eq)]
 pub enum Field<'a> {
     Term { term: Term, label: &'a [u8] },
     Row(Row),

@@ -1,22 +1,23 @@
 // Labels: 1 to 12 visible bytes.
 ghost use Rattle.std.specs.Prelude.{◌≡◌};
-ghost use Rattle.sheet.specs.Fields.{is_label, all_visible};
+ghost use Rattle.std.specs.List.{list_all};
+ghost use Rattle.sheet.specs.Fields.{is_label, is_visible};
 
 // Whether the bytes can be a term's label.
 pub(crate) fn is_label(bytes: &[u8]) -> bool
     ensures { result ≡ is_label bytes.now }
 {
-    1 <= bytes.len() && bytes.len() <= 12 && are_visible(bytes)
+    (1..=12).contains(&bytes.len()) && are_visible(bytes)
 }
 
-// Whether each byte is 33 to 126.
 fn are_visible(bytes: &[u8]) -> bool
-    ensures { result ≡ all_visible bytes.now }
+    ensures { result ≡ list_all is_visible bytes.now }
 {
-    for byte in bytes {
-        if *byte < 33 || *byte > 126 {
-            return false;
-        }
-    }
-    true
+    bytes.iter().all(|byte| is_visible(*byte))
+}
+
+fn is_visible(byte: u8) -> bool
+    ensures { result ≡ is_visible byte }
+{
+    byte.is_ascii_graphic()
 }

@@ -1,6 +1,6 @@
 // The reader: the field at the front of a sheet.
 ghost use Rattle.std.specs.Prelude.{◌≡◌, ◌+◌, ◌≤◌, length, drop, IfOk, MatchResult};
-ghost use Rattle.sheet.specs.Parsing.{content_in, field_in, field_part, form_at, kind_of, outcome, parse, remaining, stated_length, term_in};
+ghost use Rattle.sheet.specs.Parsing.{content_in, field_in, field_part, form_at, outcome, parse, remaining, stated_length, term_in};
 ghost use Rattle.sheet.specs.RoundTrips.{ReadRight, ReadsAll};
 
 use crate::fault::{Cause, Fault, READER};
@@ -9,7 +9,8 @@ use crate::label::is_label;
 use crate::row::Row;
 use crate::term::{Form, Kind, Term};
 
-// Reads the field at the front of the sheet, and hands back the bytes after it; the whole sheet where it refuses.
+// Reads the field at the front of the sheet, and hands back the bytes after it; the whole sheet where it refuses. That the
+// outcome and the bytes are a pair is a rule of the project.
 pub fn read_field(sheet: &[u8]) -> (Result<Field<'_>, Fault>, &[u8])
     ensures answer { outcome result.0 ≡ parse sheet.now }
     ensures rest { result.1.now ≡ remaining sheet.now }
@@ -49,16 +50,6 @@ fn split_field(sheet: &[u8]) -> Result<(Field<'_>, &[u8]), Cause>
     Ok((field, &after[size..]))
 }
 
-fn read_kind(byte: u8) -> Result<Kind, Cause>
-    ensures { result ≡ kind_of byte }
-{
-    match byte as char {
-        'D' => Ok(Kind::Dated),
-        'L' => Ok(Kind::Level),
-        _ => Err(Cause::MalformedTerm),
-    }
-}
-
 // The form in a term's content.
 fn read_form(body: &[u8]) -> Result<Form, Cause>
     requires { 2 ≤ length body.now }
@@ -84,7 +75,7 @@ fn read_term(body: &[u8]) -> Result<Field<'_>, Cause>
     requires { 2 ≤ length body.now }
     ensures { outcome result ≡ term_in body.now }
 {
-    let kind = read_kind(body[0])?;
+    let kind = Kind::try_from(body[0])?;
     let form = read_form(body)?;
     let label = &body[1 + form.size()..];
     if !is_label(label) {

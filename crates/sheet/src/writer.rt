@@ -1,26 +1,24 @@
 // The writer: one field into the caller's buffer.
 ghost use Rattle.std.specs.Prelude.{◌≡◌, ◌++◌};
 ghost use Rattle.sheet.specs.Encoding.{encode, leaving, put, written};
-ghost use Rattle.sheet.specs.Fields.{value_of, kind_byte, row_field, term_field};
+ghost use Rattle.sheet.specs.Fields.{value_of, row_field, term_field};
 ghost use Rattle.sheet.specs.RoundTrips.{ReadBack, RowFits};
 
 use crate::fault::{Cause, Fault, READER};
 use crate::field::Field;
 use crate::label::is_label;
+use crate::layer::InLayer;
 use crate::row::Row;
-use crate::term::{Form, Kind, Term};
+use crate::term::{Form, Term};
 
-// Writes the field at the front of the buffer, and answers its length. The bytes after it stay as they were, and where it refuses the
+// Writes the field at the front of the buffer, which is lent as to a reader of bytes since nothing is allocated, and answers its length. The bytes after it stay as they were, and where it refuses the
 // whole buffer does.
 pub fn write_field(field: &Field<'_>, out: &mut [u8]) -> Result<usize, Fault>
     ensures answer { result ≡ (encode (value_of field.now) out.old).answer }
     ensures buffer { out.new ≡ (encode (value_of field.now) out.old).buffer }
     ensures back { ReadBack (value_of field.now) out.old out.new result }
 {
-    match write_value(field, out) {
-        Ok(length) => Ok(length),
-        Err(cause) => Err(cause.in_layer(READER)),
-    }
+    write_value(field, out).in_layer(READER)
 }
 
 fn write_value(field: &Field<'_>, out: &mut [u8]) -> Result<usize, Cause>
@@ -44,7 +42,7 @@ fn write_term(term: Term, label: &[u8], out: &mut [u8]) -> Result<usize, Cause>
         return Err(Cause::BadLabel);
     }
     let size = (1 + term.form.size() + label.len()) as u8;
-    let kind = kind_byte_of(term.kind);
+    let kind = u8::from(term.kind);
     match term.form {
         Form::Name => put_bytes(&[b'T', 0, size, kind, b'N'], label, out),
         Form::One { table, argument } => put_bytes(
@@ -76,15 +74,6 @@ fn write_row(row: Row, out: &mut [u8]) -> Result<usize, Cause>
         ),
         Row::Same { left, right } => put_bytes(&[b'E', 0, 2], &[left, right], out),
         Row::Unlike { left, right } => put_bytes(&[b'U', 0, 2], &[left, right], out),
-    }
-}
-
-fn kind_byte_of(kind: Kind) -> u8
-    ensures { result ≡ kind_byte kind }
-{
-    match kind {
-        Kind::Dated => b'D',
-        Kind::Level => b'L',
     }
 }
 

@@ -38,7 +38,7 @@ const ACCEPTED: [(&[u8], usize); 24] = [
     (b"U\x00\x02\x01\x02\xFF\xFF\xFF", 5),
 ];
 
-// A sheet, and the number by which its first field is refused.
+// A sheet, and the number by which its first field is refused. Numbers, since these are what people see.
 const REFUSED: [(&[u8], u8); 83] = [
     // fewer than three bytes, or than the stated length
     (b"", 1),

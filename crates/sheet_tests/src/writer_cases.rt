@@ -7,36 +7,23 @@ use sheet::writer::write_field;
 use std::process::Abort;
 use std::test::Fail;
 
-fn name(kind: Kind, label: &[u8]) -> Field<'_> {
-    let form = Form::Name;
+fn term(kind: Kind, form: Form, label: &[u8]) -> Field<'_> {
     Field::Term {
         term: Term { kind, form },
         label,
     }
 }
 
-fn one(kind: Kind, table: char, label: &[u8]) -> Field<'_> {
-    let form = Form::One { table, argument: 7 };
-    Field::Term {
-        term: Term { kind, form },
-        label,
-    }
+fn one(table: char) -> Form {
+    Form::One { table, argument: 7 }
 }
 
-fn two(kind: Kind, table: char, label: &[u8]) -> Field<'_> {
-    let form = Form::Two {
+fn two(table: char) -> Form {
+    Form::Two {
         table,
         first: 7,
         second: 8,
-    };
-    Field::Term {
-        term: Term { kind, form },
-        label,
     }
-}
-
-fn row(row: Row) -> Field<'static> {
-    Field::Row(row)
 }
 
 // Checks the field in buffers with just enough room, with more and with less.
@@ -90,27 +77,39 @@ fn write_with_room(
 
 #[test]
 fn terms_are_written(rt: HostRuntime) -> Result<(), Fail> {
-    check_written(&rt, &name(Kind::Dated, b"x"), b"T\x00\x03DNx")?;
+    check_written(&rt, &term(Kind::Dated, Form::Name, b"x"), b"T\x00\x03DNx")?;
     check_written(
         &rt,
-        &name(Kind::Level, b"abcdefghijkl"),
+        &term(Kind::Level, Form::Name, b"abcdefghijkl"),
         b"T\x00\x0ELNabcdefghijkl",
     )?;
-    check_written(&rt, &one(Kind::Level, 'A', b"!"), b"T\x00\x05L1A\x07!")?;
-    check_written(&rt, &one(Kind::Dated, 'Z', b"~"), b"T\x00\x05D1Z\x07~")?;
     check_written(
         &rt,
-        &two(Kind::Level, 'M', b"abcdefghijkl"),
+        &term(Kind::Level, one('A'), b"!"),
+        b"T\x00\x05L1A\x07!",
+    )?;
+    check_written(
+        &rt,
+        &term(Kind::Dated, one('Z'), b"~"),
+        b"T\x00\x05D1Z\x07~",
+    )?;
+    check_written(
+        &rt,
+        &term(Kind::Level, two('M'), b"abcdefghijkl"),
         b"T\x00\x11L2M\x07\x08abcdefghijkl",
     )?;
-    check_written(&rt, &two(Kind::Dated, 'B', b"x"), b"T\x00\x06D2B\x07\x08x")
+    check_written(
+        &rt,
+        &term(Kind::Dated, two('B'), b"x"),
+        b"T\x00\x06D2B\x07\x08x",
+    )
 }
 
 #[test]
 fn rows_are_written(rt: HostRuntime) -> Result<(), Fail> {
     check_written(
         &rt,
-        &row(Row::Same {
+        &Field::Row(Row::Same {
             left: 1,
             right: 255,
         }),
@@ -118,7 +117,7 @@ fn rows_are_written(rt: HostRuntime) -> Result<(), Fail> {
     )?;
     check_written(
         &rt,
-        &row(Row::Unlike { left: 0, right: 2 }),
+        &Field::Row(Row::Unlike { left: 0, right: 2 }),
         b"U\x00\x02\x00\x02",
     )
 }
@@ -135,7 +134,7 @@ fn spans_are_written(rt: HostRuntime) -> Result<(), Fail> {
     for (bound, bytes) in cases {
         check_written(
             &rt,
-            &row(Row::Span {
+            &Field::Row(Row::Span {
                 left: 2,
                 right: 9,
                 bound,
@@ -151,15 +150,15 @@ fn spans_are_written(rt: HostRuntime) -> Result<(), Fail> {
 fn terms_are_refused(rt: HostRuntime) -> Result<(), Fail> {
     // U+0141 is 256 past A
     for table in ['@', '[', 'a', '\u{141}'] {
-        check_refused(&rt, &one(Kind::Level, table, b"x"), 32, 4)?;
-        check_refused(&rt, &two(Kind::Level, table, b"x"), 32, 4)?;
-        check_refused(&rt, &one(Kind::Dated, table, b""), 0, 4)?;
+        check_refused(&rt, &term(Kind::Level, one(table), b"x"), 32, 4)?;
+        check_refused(&rt, &term(Kind::Level, two(table), b"x"), 32, 4)?;
+        check_refused(&rt, &term(Kind::Dated, one(table), b""), 0, 4)?;
     }
     let labels: [&[u8]; 5] = [b"", b"abcdefghijklm", b" ", b"a\x7F", b"\xE1"];
     for label in labels {
-        check_refused(&rt, &name(Kind::Dated, label), 32, 5)?;
-        check_refused(&rt, &one(Kind::Level, 'A', label), 32, 5)?;
-        check_refused(&rt, &two(Kind::Level, 'Z', label), 0, 5)?;
+        check_refused(&rt, &term(Kind::Dated, Form::Name, label), 32, 5)?;
+        check_refused(&rt, &term(Kind::Level, one('A'), label), 32, 5)?;
+        check_refused(&rt, &term(Kind::Level, two('Z'), label), 0, 5)?;
     }
     Ok(())
 }

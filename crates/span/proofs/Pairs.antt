@@ -1,28 +1,19 @@
 -- What holds of every edge of the order holds of each pair of seats, and the other way round.
-use Rattle.std.specs.Prelude.{◌≡◌, ℕ, zero, suc, ◌+◌, ◌<◌, ◌≤◌, List, [], ◌∷◌, ◌++◌, length, pos, negsuc, ◌+ℤ◌, ◌≤ℤ◌, ◌<ℤ◌, slice_index, All}
-use Rattle.std.proofs.Common.{sym, subst, inl, inr, arith}
-use Rattle.std.proofs.lemmas.List.Elements.{All-nil, All-cons, All-append}
+use Rattle.std.specs.Prelude.{◌≡◌, ℕ, zero, suc, ◌+◌, ◌<◌, List, [], ◌∷◌, ◌++◌, length, pos, ◌<ℤ◌, slice_index, All}
+use Rattle.std.proofs.Common.{subst, arith}
+use Rattle.std.proofs.lemmas.List.Elements.{All-nil, All-append}
 use Rattle.std.proofs.lemmas.List.{get_or_append_left, get_or-append-add, length-append}
 use Rattle.std.proofs.lemmas.Int.{ints}
-use Rattle.std.proofs.lemmas.Bool.{cases_order, lt-ltb, le-ltb}
 use Rattle.graph.specs.declared.Edge.{Edge}
 use Rattle.graph.specs.Graph.{EdgeHolds}
 use Rattle.engine.specs.Meaning.{Numbers}
 use Rattle.span.specs.Constraints.{edge, pair_edges, edges_with, order_edges}
-use Rattle.span.proofs.Parts.{pair_equal}
 
 pub all_front : {X : Type 0} (P : X → Type 0) (xs ys : List X) → All P (xs ++ ys) → All P xs
 all_front P xs ys a k d l = subst P (get_or_append_left xs ys d k l) (a k d (omega (arith, length-append xs ys)))
 
 pub all_back : {X : Type 0} (P : X → Type 0) (xs ys : List X) → All P (xs ++ ys) → All P ys
 all_back P xs ys a k d l = subst P (get_or-append-add xs ys k d) (a (length xs + k) d (omega (arith, length-append xs ys)))
-
--- the edges of a pair, by the order of its ranks
-pair_below : (s r t q : ℕ) → r < q → pair_edges s r t q ≡ edge s t (negsuc 0) ∷ []
-pair_below s r t q l = rw (lt-ltb r q l)
-
-pair_above : (s r t q : ℕ) → q < r → pair_edges s r t q ≡ edge t s (negsuc 0) ∷ []
-pair_above s r t q l = let k : q ≤ r = omega arith in rw (le-ltb r q k, lt-ltb q r l)
 
 -- the numbers of two seats are in the order of their ranks
 pub record PairInOrder (v : Numbers) (s r t q : ℕ) : Type 0 where
@@ -31,45 +22,13 @@ pub record PairInOrder (v : Numbers) (s r t q : ℕ) : Type 0 where
   pub more : q < r → v t <ℤ v s
 
 pub pair_order : (v : Numbers) (s r t q : ℕ) → All (EdgeHolds v) (pair_edges s r t q) → PairInOrder v s r t q
-pair_order v s r t q a = record {
-  same = λ e.
-      let l : q ≤ r = omega arith in
-      let m : r ≤ q = omega arith in
-      let h = subst (All (EdgeHolds v)) (pair_equal s r t q l m) a in
-      let x : v s ≤ℤ (v t +ℤ pos 0) = h 0 (edge s t (pos 0)) (omega arith) in
-      let y : v t ≤ℤ (v s +ℤ pos 0) = h 1 (edge t s (pos 0)) (omega arith) in
-      omega (arith, ints);
-  less = λ l.
-      let h = subst (All (EdgeHolds v)) (pair_below s r t q l) a in
-      let x : v s ≤ℤ (v t +ℤ negsuc 0) = h 0 (edge s t (negsuc 0)) (omega arith) in
-      omega (arith, ints);
-  more = λ l.
-      let h = subst (All (EdgeHolds v)) (pair_above s r t q l) a in
-      let x : v t ≤ℤ (v s +ℤ negsuc 0) = h 0 (edge t s (negsuc 0)) (omega arith) in
-      omega (arith, ints);
-}
+pair_order v s r t q a =
+    let first = a 0 (edge s t (pos 0)) in
+    let second = a 1 (edge s t (pos 0)) in
+    record { same = λ e. grind (arith, ints); less = λ l. grind (arith, ints); more = λ l. grind (arith, ints) }
 
 pub order_pair : (v : Numbers) (s r t q : ℕ) → PairInOrder v s r t q → All (EdgeHolds v) (pair_edges s r t q)
-order_pair v s r t q o =
-    elim (cases_order r q) [
-      | inl e ↦
-          let l : q ≤ r = omega arith in
-          let m : r ≤ q = omega arith in
-          let z : v s ≡ v t = o.same e in
-          let x : v s ≤ℤ (v t +ℤ pos 0) = omega (arith, ints) in
-          let y : v t ≤ℤ (v s +ℤ pos 0) = omega (arith, ints) in
-          subst (All (EdgeHolds v)) (sym (pair_equal s r t q l m)) (All-cons (EdgeHolds v) (edge s t (pos 0)) (edge t s (pos 0) ∷ []) x (All-cons (EdgeHolds v) (edge t s (pos 0)) [] y (All-nil _)))
-      | inr k ↦ elim k [
-        | inl l ↦
-            let z : v s <ℤ v t = o.less l in
-            let x : v s ≤ℤ (v t +ℤ negsuc 0) = omega (arith, ints) in
-            subst (All (EdgeHolds v)) (sym (pair_below s r t q l)) (All-cons (EdgeHolds v) (edge s t (negsuc 0)) [] x (All-nil _))
-        | inr l ↦
-            let z : v t <ℤ v s = o.more l in
-            let x : v t ≤ℤ (v s +ℤ negsuc 0) = omega (arith, ints) in
-            subst (All (EdgeHolds v)) (sym (pair_above s r t q l)) (All-cons (EdgeHolds v) (edge t s (negsuc 0)) [] x (All-nil _))
-      ]
-    ]
+order_pair v s r t q o = λ k d l. grind (arith, ints)
 
 -- each pair of placed seats, an earlier and a later one
 module _ (P : Edge → Type 0) where

@@ -1,7 +1,7 @@
--- What a list of edges holds.
-use Rattle.std.specs.Prelude.{List, take}
+-- The room of a list of edges.
+use Rattle.std.specs.Prelude.{◌≤◌, List, length}
 use Rattle.graph.specs.declared.Edge.{Edge}
-use Rattle.span.specs.declared.edge_list.EdgeList.{EdgeList}
 
-abbrev pub edges_of : EdgeList → List Edge
-edges_of l = take l.count l.edges
+-- the edges fit in a list
+abbrev pub FitInList : List Edge → Type 0
+FitInList es = length es ≤ 128

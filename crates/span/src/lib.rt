@@ -1,7 +1,6 @@
 #![tactic(auto)]
 // The span engine: difference bounds between instants, decided by Bellman-Ford.
 mod constraints;
-mod edge_list;
 mod relaxing;
 pub mod span;
 pub mod span_dating;

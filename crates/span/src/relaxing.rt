@@ -1,19 +1,23 @@
 // Bellman and Ford's rounds over the edges.
-ghost use Rattle.std.specs.Prelude.{◌≡◌, ◌≤◌, length};
-ghost use Rattle.graph.specs.Graph.{Within, rounds, zeros, is_stable};
+ghost use Rattle.std.specs.Prelude.{◌≡◌, ◌≤◌, if◌then◌else◌, Some, None};
+ghost use Rattle.graph.specs.Claims.{after};
+ghost use Rattle.graph.specs.Graph.{Within, is_stable};
+ghost use Rattle.span.specs.Lists.{FitInList};
 
+use engine::limits::MAX_TERMS;
 use graph::Edge;
 
-// Lowers distances along the edges, round after round, until no edge can lower one. False where one still can after `limit` rounds.
-pub(crate) fn relax_rounds(edges: &[Edge], distances: &mut [i64], limit: usize) -> bool
-    requires within { Within (length distances.old) edges.now }
-    requires few { length edges.now ≤ 128 }
+// Lowers distances, from 0 each, along the edges, round after round, until no edge can lower one.
+// None where one still can after `limit` rounds. Two loops that a label leaves: a rule of the project.
+pub(crate) fn relax_rounds(edges: &[Edge], limit: usize) -> Option<[i64; MAX_TERMS]>
+    requires within { Within 32 edges.now }
+    requires few { FitInList edges.now }
     requires short { limit ≤ 8 }
-    requires start { distances.old ≡ zeros (length distances.old) }
-    ensures made { distances.new ≡ rounds limit edges.now (zeros (length distances.old)) }
-    ensures told { result ≡ is_stable edges.now (rounds limit edges.now (zeros (length distances.old))) }
+    ensures { let distances = after 32 limit edges.now in
+        result ≡ (if is_stable edges.now distances then Some distances else None) }
 {
-    let mut stable = false;
+    let mut distances = [0; MAX_TERMS];
+    let mut settled = None;
     'rounds: for round in 0..=limit {
         let mut lowered = false;
         for edge in edges {
@@ -28,9 +32,9 @@ pub(crate) fn relax_rounds(edges: &[Edge], distances: &mut [i64], limit: usize) 
             }
         }
         if !lowered {
-            stable = true;
+            settled = Some(distances);
             break 'rounds;
         }
     }
-    stable
+    settled
 }

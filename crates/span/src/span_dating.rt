@@ -1,36 +1,27 @@
 // The span engine's dates.
-ghost use Rattle.std.specs.Prelude.{◌≡◌, ℕ, ◌-◌, ◌≤◌, Bool, List, ◌++◌, length, replicate, pos, ◌-ℤ◌, All};
+ghost use Rattle.std.specs.Prelude.{◌≡◌, ◌≤◌, length, All};
 ghost use Rattle.engine.specs.Dates.{GreatestDates};
-ghost use Rattle.graph.specs.Graph.{at};
+ghost use Rattle.engine.specs.Limits.{max_seats};
 ghost use Rattle.span.specs.Dating.{InLimits, counts_spans, from_zero};
 ghost use Rattle.engine.proofs.Laws.{same_greatest_dates};
 
 use crate::span::Span;
+use arrayvec::ArrayVec;
 use engine::dating::Dating;
 use engine::engine::Engine;
+use engine::limits::{MAX_SEATS, MAX_TERMS};
 use sheet::fault::{Cause, Fault};
 
-// The distance of a term, counted from zero's.
-fn date_of(term: u8, distances: &[i64]) -> i64
-    requires long { length distances.now ≡ 32 }
-    requires zero { InLimits distances.now 0 }
-    requires low { InLimits distances.now term }
-    ensures { result ≡ at distances.now term -ℤ at distances.now 0 }
-{
-    distances[term as usize] - distances[0]
-}
-
-// The distance of each seat's term, counted from zero's, and 0 at each place that is left of 8.
-fn dates_from_distances(seats: &[u8], distances: &[i64]) -> [i64; 8]
-    requires few { length seats.now ≤ 8 }
-    requires long { length distances.now ≡ 32 }
+// The distance of each seat's term, counted from zero's.
+fn dates_from_distances(seats: &[u8], distances: &[i64; MAX_TERMS]) -> ArrayVec<i64, MAX_SEATS>
+    requires few { length seats.now ≤ max_seats }
     requires zero { InLimits distances.now 0 }
     requires each { All (InLimits distances.now) seats.now }
-    ensures { result ≡ from_zero distances.now seats.now ++ replicate (8 - length seats.now) (pos 0) }
+    ensures { result.items ≡ from_zero distances.now seats.now }
 {
-    let mut dates = [0; 8];
-    for p in 0..seats.len() {
-        dates[p] = date_of(seats[p], distances);
+    let mut dates = ArrayVec::new();
+    for term in seats {
+        dates.push(distances[*term as usize] - distances[0]);
     }
     dates
 }
@@ -43,11 +34,13 @@ impl Dating for Span {
 
     ghost once = { λ n ts rows codes a b x y. same_greatest_dates ts rows codes a b x y };
 
-    fn dates(&self) -> Result<[i64; 8], Fault> {
-        let (stable, distances) = self.relax_terms();
-        if self.held.codes().len() < self.held.seats().len() || !stable {
-            return Err(Cause::NoDates.in_layer(<Span as Engine>::LETTER));
+    fn dates(&self) -> Result<ArrayVec<i64, MAX_SEATS>, Fault> {
+        let seats = self.held.seats();
+        match self.shortest_distances() {
+            Some(distances) if self.held.codes().len() == seats.len() => {
+                Ok(dates_from_distances(seats, &distances))
+            }
+            _ => Err(Cause::NoDates.in_layer(Self::LETTER)),
         }
-        Ok(dates_from_distances(self.held.seats(), &distances))
     }
 }

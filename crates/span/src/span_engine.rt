@@ -7,6 +7,7 @@ ghost use Rattle.engine.proofs.Laws.{span_rule_without};
 use crate::span::Span;
 use engine::engine::Engine;
 use sheet::fault::Fault;
+use sheet::layer::InLayer;
 use sheet::row::Row;
 use sheet::term::Term;
 
@@ -32,31 +33,31 @@ impl Engine for Span {
     }
 
     fn note_term(&mut self, term: Term) -> Result<(), Fault> {
-        self.held.note_term(term, Self::LETTER)
+        self.held.note_term(term).in_layer(Self::LETTER)
     }
 
     fn note_row(&mut self, row: Row) -> Result<(), Fault> {
-        self.held.note_row(row, Self::LETTER)
+        self.held.note_row(row).in_layer(Self::LETTER)
     }
 
     fn strike(&mut self) -> Result<(), Fault> {
-        self.held.strike(Self::LETTER)
+        self.held.strike().in_layer(Self::LETTER)
     }
 
     fn mute(&mut self, i: u8) -> Result<(), Fault> {
-        self.held.mark(i, false, Self::LETTER)
+        self.held.mark(i, false).in_layer(Self::LETTER)
     }
 
     fn unmute(&mut self, i: u8) -> Result<(), Fault> {
-        self.held.mark(i, true, Self::LETTER)
+        self.held.mark(i, true).in_layer(Self::LETTER)
     }
 
     fn place(&mut self, code: u8) -> Result<(), Fault> {
-        self.held.place(code, Self::LETTER)
+        self.held.place(code).in_layer(Self::LETTER)
     }
 
     fn lift(&mut self) -> Result<(), Fault> {
-        self.held.lift(Self::LETTER)
+        self.held.lift().in_layer(Self::LETTER)
     }
 
     fn open(&self) -> bool {

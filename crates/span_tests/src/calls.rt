@@ -1,4 +1,4 @@
-// Each call with what it answers, the number of its refusal or 0. An engine goes through each table from new.
+// Each call with what it answers, a refusal by its number, since that is what people see. An engine goes through each table from new.
 use crate::script::{Call, make};
 use engine::engine::Engine;
 use sheet::row::Row;
@@ -18,7 +18,7 @@ const LEVEL: Call = Call::NoteTerm(Term {
 });
 
 // Terms: 4, 6, 7, 8 and 9, from the top down.
-const TERMS: [(Call, u8); 48] = [
+const TERMS: [(Call, Result<(), u8>); 48] = [
     // a table letter that is not A to Z comes before all else
     (
         Call::NoteTerm(Term {
@@ -28,7 +28,7 @@ const TERMS: [(Call, u8); 48] = [
                 argument: 9,
             },
         }),
-        4,
+        Err(4),
     ),
     (
         Call::NoteTerm(Term {
@@ -39,17 +39,17 @@ const TERMS: [(Call, u8); 48] = [
                 second: 9,
             },
         }),
-        4,
+        Err(4),
     ),
     // seven dated terms beside zero, and no ninth
-    (DATED, 0),
-    (DATED, 0),
-    (DATED, 0),
-    (DATED, 0),
-    (DATED, 0),
-    (DATED, 0),
-    (DATED, 0),
-    (DATED, 7),
+    (DATED, Ok(())),
+    (DATED, Ok(())),
+    (DATED, Ok(())),
+    (DATED, Ok(())),
+    (DATED, Ok(())),
+    (DATED, Ok(())),
+    (DATED, Ok(())),
+    (DATED, Err(7)),
     // a ninth dated term comes before a late argument and another count
     (
         Call::NoteTerm(Term {
@@ -59,7 +59,7 @@ const TERMS: [(Call, u8); 48] = [
                 argument: 40,
             },
         }),
-        7,
+        Err(7),
     ),
     // an argument that is not earlier, for either place, before another count
     (
@@ -70,7 +70,7 @@ const TERMS: [(Call, u8); 48] = [
                 argument: 8,
             },
         }),
-        8,
+        Err(8),
     ),
     (
         Call::NoteTerm(Term {
@@ -80,7 +80,7 @@ const TERMS: [(Call, u8); 48] = [
                 argument: 0,
             },
         }),
-        0,
+        Ok(()),
     ),
     (
         Call::NoteTerm(Term {
@@ -91,7 +91,7 @@ const TERMS: [(Call, u8); 48] = [
                 second: 0,
             },
         }),
-        8,
+        Err(8),
     ),
     (
         Call::NoteTerm(Term {
@@ -102,7 +102,7 @@ const TERMS: [(Call, u8); 48] = [
                 second: 9,
             },
         }),
-        8,
+        Err(8),
     ),
     (
         Call::NoteTerm(Term {
@@ -113,7 +113,7 @@ const TERMS: [(Call, u8); 48] = [
                 second: 0,
             },
         }),
-        8,
+        Err(8),
     ),
     // the same letter with the other count
     (
@@ -125,7 +125,7 @@ const TERMS: [(Call, u8); 48] = [
                 second: 1,
             },
         }),
-        9,
+        Err(9),
     ),
     (
         Call::NoteTerm(Term {
@@ -136,7 +136,7 @@ const TERMS: [(Call, u8); 48] = [
                 second: 8,
             },
         }),
-        0,
+        Ok(()),
     ),
     (
         Call::NoteTerm(Term {
@@ -146,7 +146,7 @@ const TERMS: [(Call, u8); 48] = [
                 argument: 0,
             },
         }),
-        9,
+        Err(9),
     ),
     (
         Call::NoteTerm(Term {
@@ -156,33 +156,33 @@ const TERMS: [(Call, u8); 48] = [
                 argument: 99,
             },
         }),
-        8,
+        Err(8),
     ),
-    (LEVEL, 0),
-    (LEVEL, 0),
-    (LEVEL, 0),
-    (LEVEL, 0),
-    (LEVEL, 0),
-    (LEVEL, 0),
-    (LEVEL, 0),
-    (LEVEL, 0),
-    (LEVEL, 0),
-    (LEVEL, 0),
-    (LEVEL, 0),
-    (LEVEL, 0),
-    (LEVEL, 0),
-    (LEVEL, 0),
-    (LEVEL, 0),
-    (LEVEL, 0),
-    (LEVEL, 0),
-    (LEVEL, 0),
-    (LEVEL, 0),
-    (LEVEL, 0),
-    (LEVEL, 0),
-    (LEVEL, 0),
+    (LEVEL, Ok(())),
+    (LEVEL, Ok(())),
+    (LEVEL, Ok(())),
+    (LEVEL, Ok(())),
+    (LEVEL, Ok(())),
+    (LEVEL, Ok(())),
+    (LEVEL, Ok(())),
+    (LEVEL, Ok(())),
+    (LEVEL, Ok(())),
+    (LEVEL, Ok(())),
+    (LEVEL, Ok(())),
+    (LEVEL, Ok(())),
+    (LEVEL, Ok(())),
+    (LEVEL, Ok(())),
+    (LEVEL, Ok(())),
+    (LEVEL, Ok(())),
+    (LEVEL, Ok(())),
+    (LEVEL, Ok(())),
+    (LEVEL, Ok(())),
+    (LEVEL, Ok(())),
+    (LEVEL, Ok(())),
+    (LEVEL, Ok(())),
     // 32 terms, which comes before the dated terms and the arguments
-    (LEVEL, 6),
-    (DATED, 6),
+    (LEVEL, Err(6)),
+    (DATED, Err(6)),
     (
         Call::NoteTerm(Term {
             kind: Kind::Level,
@@ -191,7 +191,7 @@ const TERMS: [(Call, u8); 48] = [
                 argument: 99,
             },
         }),
-        6,
+        Err(6),
     ),
     (
         Call::NoteTerm(Term {
@@ -201,17 +201,17 @@ const TERMS: [(Call, u8); 48] = [
                 argument: 0,
             },
         }),
-        4,
+        Err(4),
     ),
     // a new engine has room again
-    (Call::Renew, 0),
-    (DATED, 0),
+    (Call::Renew, Ok(())),
+    (DATED, Ok(())),
 ];
 
 // Rows: 12, 13, 14 and 15.
-const ROWS: [(Call, u8); 27] = [
-    (DATED, 0),
-    (LEVEL, 0),
+const ROWS: [(Call, Result<(), u8>); 27] = [
+    (DATED, Ok(())),
+    (LEVEL, Ok(())),
     // a term that is not there, a span on a level, a bound past its limits, in this order
     (
         Call::NoteRow(Row::Span {
@@ -219,7 +219,7 @@ const ROWS: [(Call, u8); 27] = [
             right: 0,
             bound: 0,
         }),
-        12,
+        Err(12),
     ),
     (
         Call::NoteRow(Row::Span {
@@ -227,7 +227,7 @@ const ROWS: [(Call, u8); 27] = [
             right: 3,
             bound: 2000000,
         }),
-        12,
+        Err(12),
     ),
     (
         Call::NoteRow(Row::Span {
@@ -235,15 +235,15 @@ const ROWS: [(Call, u8); 27] = [
             right: 3,
             bound: 0,
         }),
-        12,
+        Err(12),
     ),
-    (Call::NoteRow(Row::Same { left: 0, right: 3 }), 12),
+    (Call::NoteRow(Row::Same { left: 0, right: 3 }), Err(12)),
     (
         Call::NoteRow(Row::Unlike {
             left: 255,
             right: 0,
         }),
-        12,
+        Err(12),
     ),
     (
         Call::NoteRow(Row::Span {
@@ -251,7 +251,7 @@ const ROWS: [(Call, u8); 27] = [
             right: 0,
             bound: 0,
         }),
-        13,
+        Err(13),
     ),
     (
         Call::NoteRow(Row::Span {
@@ -259,7 +259,7 @@ const ROWS: [(Call, u8); 27] = [
             right: 2,
             bound: 0,
         }),
-        13,
+        Err(13),
     ),
     (
         Call::NoteRow(Row::Span {
@@ -267,7 +267,7 @@ const ROWS: [(Call, u8); 27] = [
             right: 2,
             bound: 5000000,
         }),
-        13,
+        Err(13),
     ),
     (
         Call::NoteRow(Row::Span {
@@ -275,7 +275,7 @@ const ROWS: [(Call, u8); 27] = [
             right: 0,
             bound: 1000001,
         }),
-        14,
+        Err(14),
     ),
     (
         Call::NoteRow(Row::Span {
@@ -283,7 +283,7 @@ const ROWS: [(Call, u8); 27] = [
             right: 1,
             bound: -1000001,
         }),
-        14,
+        Err(14),
     ),
     (
         Call::NoteRow(Row::Span {
@@ -291,7 +291,7 @@ const ROWS: [(Call, u8); 27] = [
             right: 0,
             bound: 2147483647,
         }),
-        14,
+        Err(14),
     ),
     // both limits, and rows of one term with itself
     (
@@ -300,7 +300,7 @@ const ROWS: [(Call, u8); 27] = [
             right: 0,
             bound: 1000000,
         }),
-        0,
+        Ok(()),
     ),
     (
         Call::NoteRow(Row::Span {
@@ -308,68 +308,68 @@ const ROWS: [(Call, u8); 27] = [
             right: 1,
             bound: -1000000,
         }),
-        0,
+        Ok(()),
     ),
-    (Call::NoteRow(Row::Same { left: 1, right: 1 }), 0),
-    (Call::NoteRow(Row::Unlike { left: 2, right: 2 }), 0),
+    (Call::NoteRow(Row::Same { left: 1, right: 1 }), Ok(())),
+    (Call::NoteRow(Row::Unlike { left: 2, right: 2 }), Ok(())),
     (
         Call::NoteRow(Row::Span {
             left: 1,
             right: 1,
             bound: 0,
         }),
-        0,
+        Ok(()),
     ),
     // strike takes rows off, and refuses where there is none
-    (Call::Strike, 0),
-    (Call::Strike, 0),
-    (Call::Strike, 0),
-    (Call::Strike, 0),
-    (Call::Strike, 0),
-    (Call::Strike, 15),
+    (Call::Strike, Ok(())),
+    (Call::Strike, Ok(())),
+    (Call::Strike, Ok(())),
+    (Call::Strike, Ok(())),
+    (Call::Strike, Ok(())),
+    (Call::Strike, Err(15)),
     // terms may follow rows
-    (Call::NoteRow(Row::Same { left: 0, right: 1 }), 0),
-    (DATED, 0),
+    (Call::NoteRow(Row::Same { left: 0, right: 1 }), Ok(())),
+    (DATED, Ok(())),
     (
         Call::NoteRow(Row::Span {
             left: 3,
             right: 1,
             bound: 0,
         }),
-        0,
+        Ok(()),
     ),
 ];
 
 // Marks and codes: 19 to 23.
-const MARKS: [(Call, u8); 38] = [
-    (DATED, 0),
+const MARKS: [(Call, Result<(), u8>); 38] = [
+    (DATED, Ok(())),
     // a row that is not there
-    (Call::Mute(0), 22),
-    (Call::Unmute(0), 22),
+    (Call::Mute(0), Err(22)),
+    (Call::Unmute(0), Err(22)),
     (
         Call::NoteRow(Row::Span {
             left: 1,
             right: 0,
             bound: 3,
         }),
-        0,
+        Ok(()),
     ),
-    (Call::Mute(1), 22),
+    (Call::Mute(1), Err(22)),
     // muting may repeat
-    (Call::Mute(0), 0),
-    (Call::Mute(0), 0),
-    (Call::Unmute(0), 0),
-    (Call::Unmute(0), 0),
+    (Call::Mute(0), Ok(())),
+    (Call::Mute(0), Ok(())),
+    (Call::Unmute(0), Ok(())),
+    (Call::Unmute(0), Ok(())),
     // codes: zero takes only 0, the next 0 to 2, and then there is no seat left
-    (Call::Lift, 21),
-    (Call::Place(1), 20),
-    (Call::Place(0), 0),
-    (Call::Place(3), 20),
-    (Call::Place(2), 0),
-    (Call::Place(0), 19),
-    (Call::Place(255), 19),
+    (Call::Lift, Err(21)),
+    (Call::Place(1), Err(20)),
+    (Call::Place(0), Ok(())),
+    (Call::Place(3), Err(20)),
+    (Call::Place(2), Ok(())),
+    (Call::Place(0), Err(19)),
+    (Call::Place(255), Err(19)),
     // while codes are placed nothing else is touched, and every other ground comes first
-    (DATED, 23),
+    (DATED, Err(23)),
     (
         Call::NoteTerm(Term {
             kind: Kind::Level,
@@ -378,7 +378,7 @@ const MARKS: [(Call, u8); 38] = [
                 argument: 0,
             },
         }),
-        4,
+        Err(4),
     ),
     (
         Call::NoteTerm(Term {
@@ -388,7 +388,7 @@ const MARKS: [(Call, u8); 38] = [
                 argument: 2,
             },
         }),
-        8,
+        Err(8),
     ),
     (
         Call::NoteRow(Row::Span {
@@ -396,7 +396,7 @@ const MARKS: [(Call, u8); 38] = [
             right: 0,
             bound: 5,
         }),
-        23,
+        Err(23),
     ),
     (
         Call::NoteRow(Row::Span {
@@ -404,38 +404,43 @@ const MARKS: [(Call, u8); 38] = [
             right: 0,
             bound: 5,
         }),
-        12,
+        Err(12),
     ),
-    (Call::Strike, 23),
-    (Call::Mute(0), 23),
-    (Call::Mute(1), 22),
-    (Call::Unmute(0), 23),
-    (Call::Unmute(9), 22),
+    (Call::Strike, Err(23)),
+    (Call::Mute(0), Err(23)),
+    (Call::Mute(1), Err(22)),
+    (Call::Unmute(0), Err(23)),
+    (Call::Unmute(9), Err(22)),
     // lifted codes make way
-    (Call::Lift, 0),
-    (Call::Strike, 23),
-    (Call::Lift, 0),
-    (Call::Lift, 21),
-    (Call::Strike, 0),
-    (Call::Strike, 15),
+    (Call::Lift, Ok(())),
+    (Call::Strike, Err(23)),
+    (Call::Lift, Ok(())),
+    (Call::Lift, Err(21)),
+    (Call::Strike, Ok(())),
+    (Call::Strike, Err(15)),
     // renew with a code placed
-    (Call::Place(0), 0),
-    (Call::Renew, 0),
-    (Call::Lift, 21),
-    (DATED, 0),
-    (Call::Place(0), 0),
+    (Call::Place(0), Ok(())),
+    (Call::Renew, Ok(())),
+    (Call::Lift, Err(21)),
+    (DATED, Ok(())),
+    (Call::Place(0), Ok(())),
     // no row to strike comes before the codes
-    (Call::Strike, 15),
+    (Call::Strike, Err(15)),
 ];
 
+// Makes the call, and gives a refusal by its number. Its letter must be S.
+fn answer(rt: &impl Abort, call: Call, span: &mut Span) -> Result<(), u8> {
+    make(call, span).map_err(|fault| {
+        assert_eq!(rt; fault.layer, 'S');
+        fault.cause.number()
+    })
+}
+
 // Makes the calls in turn, and compares each answer.
-fn follow(rt: &(impl Abort + AllocGlobal), calls: &[(Call, u8)]) -> Result<(), Fail> {
+fn follow(rt: &(impl Abort + AllocGlobal), calls: &[(Call, Result<(), u8>)]) -> Result<(), Fail> {
     let mut span = Span::new(rt.alloc())?;
     for (k, (call, want)) in calls.iter().enumerate() {
-        let got = make(*call, &mut span);
-        if got != *want {
-            assert_eq!(rt; (k, got), (k, *want));
-        }
+        assert_eq!(rt; answer(rt, *call, &mut span), *want, "call {k}");
     }
     Ok(())
 }
@@ -463,21 +468,14 @@ fn its_letter_is_s(rt: HostRuntime) {
 // The sixty-fifth row is refused, before anything else is asked of it.
 #[test]
 fn sixty_four_rows(rt: HostRuntime) -> Result<(), Fail> {
+    let row = Call::NoteRow(Row::Same { left: 0, right: 0 });
+    let bad_row = Call::NoteRow(Row::Same { left: 0, right: 9 });
     let mut span = Span::new(rt.alloc())?;
     for _ in 0..64u8 {
-        assert_eq!(rt;
-            make(Call::NoteRow(Row::Same { left: 0, right: 0 }), &mut span),
-            0
-        );
+        assert_eq!(rt; answer(&rt, row, &mut span), Ok(()));
     }
-    assert_eq!(rt;
-        make(Call::NoteRow(Row::Same { left: 0, right: 9 }), &mut span),
-        11
-    );
-    assert_eq!(rt; make(Call::Strike, &mut span), 0);
-    assert_eq!(rt;
-        make(Call::NoteRow(Row::Same { left: 0, right: 9 }), &mut span),
-        12
-    );
+    assert_eq!(rt; answer(&rt, bad_row, &mut span), Err(11));
+    assert_eq!(rt; answer(&rt, Call::Strike, &mut span), Ok(()));
+    assert_eq!(rt; answer(&rt, bad_row, &mut span), Err(12));
     Ok(())
 }

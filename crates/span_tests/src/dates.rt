@@ -8,12 +8,15 @@ use span::span::Span;
 use std::process::Abort;
 use std::test::Fail;
 
-// Dated terms beside zero, spans, codes, and the dates; none where the engine is not open or not every seat is placed.
+// Dated terms beside zero, spans, codes, and the dates; none where the engine is not open or not every seat is
+// placed.
 struct Case {
     dated: u8,
     spans: &'static [(u8, u8, i32)],
     codes: &'static [u8],
+    // by itself, since there are no dates either while a seat is left
     open: bool,
+    // behind the seats' dates zeros fill the row, so that the table is one constant
     dates: Option<[i64; 8]>,
 }
 
@@ -190,7 +193,7 @@ fn prepare(rt: &impl Abort, case: &Case, span: &mut Span) {
             kind: Kind::Dated,
             form: Form::Name,
         };
-        assert_eq!(rt; make(Call::NoteTerm(term), span), 0);
+        assert_eq!(rt; make(Call::NoteTerm(term), span), Ok(()));
     }
     for (left, right, bound) in case.spans {
         let row = Row::Span {
@@ -198,10 +201,10 @@ fn prepare(rt: &impl Abort, case: &Case, span: &mut Span) {
             right: *right,
             bound: *bound,
         };
-        assert_eq!(rt; make(Call::NoteRow(row), span), 0);
+        assert_eq!(rt; make(Call::NoteRow(row), span), Ok(()));
     }
     for code in case.codes {
-        assert_eq!(rt; make(Call::Place(*code), span), 0);
+        assert_eq!(rt; make(Call::Place(*code), span), Ok(()));
     }
 }
 
@@ -212,7 +215,10 @@ fn sheets_are_open_and_dated(rt: HostRuntime) -> Result<(), Fail> {
         prepare(&rt, case, &mut span);
         assert_eq!(rt; span.open(), case.open);
         match (span.dates(), case.dates) {
-            (Ok(got), Some(want)) => assert!(rt; got == want),
+            (Ok(got), Some(want)) => {
+                assert_eq!(rt; got.len(), case.dated as usize + 1);
+                assert_eq!(rt; Some(got.as_slice()), want.get(..got.len()));
+            }
             (Err(fault), None) => assert_eq!(rt; (fault.cause.number(), fault.layer), (24, 'S')),
             _ => assert!(rt; false),
         }
@@ -226,7 +232,7 @@ fn only_active_spans_count(rt: HostRuntime) -> Result<(), Fail> {
     let mut span = Span::new(rt.alloc())?;
     assert_eq!(rt;
         make(Call::NoteRow(Row::Unlike { left: 0, right: 0 }), &mut span),
-        0
+        Ok(())
     );
     assert!(rt; span.open());
     assert_eq!(rt;
@@ -238,14 +244,14 @@ fn only_active_spans_count(rt: HostRuntime) -> Result<(), Fail> {
             }),
             &mut span,
         ),
-        0
+        Ok(())
     );
     assert!(rt; !span.open());
-    assert_eq!(rt; make(Call::Mute(1), &mut span), 0);
+    assert_eq!(rt; make(Call::Mute(1), &mut span), Ok(()));
     assert!(rt; span.open());
-    assert_eq!(rt; make(Call::Unmute(1), &mut span), 0);
+    assert_eq!(rt; make(Call::Unmute(1), &mut span), Ok(()));
     assert!(rt; !span.open());
-    assert_eq!(rt; make(Call::Strike, &mut span), 0);
+    assert_eq!(rt; make(Call::Strike, &mut span), Ok(()));
     assert!(rt; span.open());
     Ok(())
 }

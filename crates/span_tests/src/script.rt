@@ -1,5 +1,7 @@
-// Calls of an engine as values, so that cases can stand in tables.
+// Calls of an engine as values with their arguments, so that tables of cases are constants. A function pointer would have no
+// arguments of its own.
 use engine::engine::Engine;
+use sheet::fault::Fault;
 use sheet::row::Row;
 use sheet::term::Term;
 
@@ -15,9 +17,9 @@ pub(crate) enum Call {
     Renew,
 }
 
-// Makes the call: 0 where it is taken, else the number of the refusal. A refusal with another letter than S is 255.
-pub(crate) fn make<E: Engine>(call: Call, engine: &mut E) -> u8 {
-    let answer = match call {
+// Makes the call.
+pub(crate) fn make<E: Engine>(call: Call, engine: &mut E) -> Result<(), Fault> {
+    match call {
         Call::NoteTerm(term) => engine.note_term(term),
         Call::NoteRow(row) => engine.note_row(row),
         Call::Strike => engine.strike(),
@@ -29,10 +31,5 @@ pub(crate) fn make<E: Engine>(call: Call, engine: &mut E) -> u8 {
             engine.renew();
             Ok(())
         }
-    };
-    match answer {
-        Ok(_) => 0,
-        Err(fault) if fault.layer == 'S' => fault.cause.number(),
-        Err(_) => 255,
     }
 }

@@ -1,32 +1,36 @@
-use Rattle.std.proofs.Common.{◌≡◌, ◌+◌, ◌-◌, ◌/◌, ◌<◌, length, get_or, take, set, ap, ◌∙◌, arith}
-use Rattle.engine.specs.Arrangements.{ranks}
-use Rattle.engine.proofs.RankArrays.{ranked, low_item, low_next, front_is, opened, joined, length_ranked, all_ranked}
+use Rattle.std.proofs.Common.{◌≡◌, ℕ, List, ◌/◌, ◌<◌, ◌++◌, ◌∷◌, [], cond, map, length, get_or, take, refl, sym, ap, ◌∙◌, arith}
+use Rattle.std.proofs.lemmas.List.{get_or-take, length-map, length-take}
+use Rattle.engine.specs.Arrangements.{opens_block, rank_after}
+use Rattle.std.specs.List.{length_refill}
+use Rattle.engine.proofs.LowRanks.{filled, low_next, ranks_more}
+use Rattle.engine.proofs.Ranks.{length_ranks}
 use Rattle.engine.proofs.arrangement.rank_seats.Goals as goal
-use Rattle.engine.proofs.arrangement.rank_seats.Goals.{then-code-eq0, else-code-eq0}
+use Rattle.engine.proofs.arrangement.rank_seats.Goals.{then-opens_block, else-opens_block}
 
-pub open_block-requires : goal.open_block-requires
-open_block-requires c i h =
-    let cs = c.args.codes.now in
-    let k = c.loop-k.k in
-    let l : k < length cs = omega arith in
-    let few : k < 8 = omega arith in
-    let front : take (k - 0) c.loop-k.ranks ≡ ranks (take k cs) = front_is cs k l few c.loop-k.ranks c.loop-k.invariant.1 in
-    let same : get_or (take (k - 0) c.loop-k.ranks) i 0 ≡ get_or (ranks (take k cs)) i 0 = ap (λ rs. get_or rs i 0) front in
-    omega (arith, low_item (127 + k) (ranks (take k cs)) i c.loop-k.invariant.2)
-
-pub loop-k-preserved : goal.loop-k-preserved
-loop-k-preserved c =
-    let cs = c.args.codes.now in
-    let k = c.loop-k.k in
-    let l : k < length cs = omega arith in
-    let few : k < 8 = omega arith in
-    let next : set c.if-code-eq0.ranks k (get_or cs k 0 / 2) ≡ ranked cs (k + 1) =
-    elim c.if-code-eq0.branch [
-      | then-code-eq0 w ↦ opened cs k l few c.loop-k.ranks w.open_block.new.ranks c.if-code-eq0.ranks c.loop-k.invariant.1 w.if-code-eq0.true w.open_block.ensures w.ranks-is
-      | else-code-eq0 w ↦ joined cs k l few c.loop-k.ranks c.if-code-eq0.ranks c.loop-k.invariant.1 w.if-code-eq0.false w.ranks-is
+pub push-requires : goal.push-requires
+push-requires c =
+    let cs = take c.min.result c.args.codes.now in
+    let k = c.loop-code.code-index in
+    let same : length c.if-opens_block.ranks.items ≡ length c.loop-code.ranks.items =
+    elim c.if-opens_block.branch [
+      | then-opens_block w ↦ ap (λ x. length x.items) w.ranks-is ∙ sym (length_refill (length c.loop-code.ranks.items) c.loop-code.ranks.items w.open_block.new.ranks refl)
+      | else-opens_block w ↦ ap (λ x. length x.items) w.ranks-is
     ] in
-    let small : get_or cs k 0 < 256 = omega (arith, c.type_inv.codes k) in
-    (ap length next ∙ length_ranked cs (k + 1) (omega arith) (omega arith), next, low_next cs k l few small c.loop-k.invariant.2)
+    (omega arith, omega (arith, same, ap length c.loop-code.invariant.0, length_ranks (take k cs), length-take k cs, length-take c.min.result c.args.codes.now))
 
-pub returns : goal.returns
-returns c = c.loop-k.invariant.1 ∙ all_ranked c.args.codes.now c.loop-k.k (omega arith)
+pub loop-code-preserved : goal.loop-code-preserved
+loop-code-preserved c =
+    let cs = take c.min.result c.args.codes.now in
+    let k = c.loop-code.code-index in
+    let code = get_or cs k 0 in
+    let moved : List ℕ → List ℕ = map (rank_after (code / 2)) in
+    let old = c.loop-code.ranks.items in
+    let l : k < length cs = c.loop-code-test.true in
+    let small : code < 256 = omega (arith, c.type_inv.codes k, get_or-take c.min.result c.args.codes.now k 0 (omega (arith, length-take c.min.result c.args.codes.now))) in
+    let front : c.if-opens_block.ranks.items ≡ cond (opens_block code) (moved old) old =
+    elim c.if-opens_block.branch [
+      | then-opens_block w ↦ ap (λ x. x.items) w.ranks-is ∙ filled old w.open_block.new.ranks (moved old) (w.open_block.ensures ∙ ap moved w.as_mut_slice.ensures.value) (length-map old (rank_after (code / 2))) ∙ ap (λ b. cond b (moved old) old) (sym w.if-opens_block.true ∙ c.opens_block.ensures)
+      | else-opens_block w ↦ ap (λ x. x.items) w.ranks-is ∙ ap (λ b. cond b (moved old) old) (sym w.if-opens_block.false ∙ c.opens_block.ensures)
+    ] in
+    let with : List ℕ → List ℕ = λ rs. cond (opens_block code) (moved rs) rs ++ (code / 2) ∷ [] in
+    (c.push.ensures.items ∙ ap (λ rs. rs ++ (code / 2) ∷ []) front ∙ ap with c.loop-code.invariant.0 ∙ sym (ranks_more cs k l), low_next cs k l small c.loop-code.invariant.1)

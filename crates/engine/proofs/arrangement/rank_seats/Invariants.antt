@@ -1,7 +1,8 @@
-use Rattle.std.proofs.Common.{◌≡◌, ◌+◌, ◌-◌, ◌++◌, length, take, replicate}
+use Rattle.std.proofs.Common.{◌≡◌, ◌+◌, take}
 use Rattle.engine.specs.Arrangements.{ranks}
-use Rattle.engine.proofs.RankArrays.{Low}
+use Rattle.engine.proofs.LowRanks.{Low}
 use Rattle.engine.proofs.arrangement.rank_seats.Given as goal
 
-abbrev pub invariant-loop-k : goal.invariant-loop-k
-invariant-loop-k l = (length l.ranks ≡ 8) × (l.ranks ≡ ranks (take l.k l.codes) ++ replicate (8 - l.k) 0) × Low (127 + l.k) (ranks (take l.k l.codes))
+-- the seats passed are ranked, and each rank leaves room for one block more
+abbrev pub invariant-loop-code : goal.invariant-loop-code
+invariant-loop-code l = let front = take l.code-index l.code-items in (l.ranks.items ≡ ranks front) × Low (127 + l.code-index) (ranks front)

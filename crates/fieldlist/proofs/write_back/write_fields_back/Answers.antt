@@ -1,54 +1,68 @@
-use Rattle.std.proofs.Common.{◌≡◌, ◌+◌, ◌-◌, ◌≤◌, length, take, drop, refl, arith, rules}
+use Rattle.std.proofs.Common.{◌≡◌, ◌+◌, ◌-◌, ◌≤◌, length, take, drop, Ok, sym, refl, ap, ◌∙◌, subst, arith}
 use Rattle.std.proofs.lemmas.List.{length-drop, length-take, take_rest}
 use Rattle.std.proofs.lemmas.Bool.{both_ways}
+use Rattle.sheet.specs.Encoding.{encode}
 use Rattle.sheet.specs.Fields.{value_of}
-use Rattle.sheet.proofs.Taking.{took}
-use Rattle.fieldlist.proofs.Walking.{start, step, alike, copy, whole, all_copied, none_copied}
+use Rattle.sheet.specs.Left.{IsLeft}
+use Rattle.sheet.proofs.Taking.{stepped}
+use Rattle.fieldlist.specs.WritingBack.{Alike}
+use Rattle.fieldlist.proofs.Walking.{Copied, Walked, start, step, alike, copy, none_copied}
 use Rattle.fieldlist.proofs.write_back.write_fields_back.Goals as goal
 
-pub loop-rest-init : goal.loop-rest-init
-loop-rest-init c = (start c.args.sheet.now, refl, omega arith, none_copied c.args.sheet.now c.args.buffer.now c.requires)
-
-pub loop-rest-preserved-then-is_written_alike : goal.loop-rest-preserved-then-is_written_alike
-loop-rest-preserved-then-is_written_alike c =
+pub loop-item-init : goal.loop-item-init
+loop-item-init c =
     let s = c.args.sheet.now in
-    let t = c.loop-rest.rest.now in
-    let u = c.read_field.result.1.now in
-    let b = c.loop-rest.buffer in
-    let p = length s - length t in
-    let e = c.read_field.ensures in
-    let k = took t u c.read_field.result.0 c.in-Ok.field c.in-Ok.is e.answer e.rest e.sound e.used in
+    let at = c.into_iter-item-iterator.ensures.into_iter_gives in
+    let all : s ≡ c.into_iter-item-iterator.result.rest.now = sym (ap (λ x. x.rest.now) at ∙ c.new-item-items.ensures.rest) in (
+      ap (λ x. x.sheet.now) at ∙ c.new-item-items.ensures.sheet,
+      subst (λ t. Walked s t 0) all (start s),
+      refl,
+      omega (arith, ap length all),
+      subst (λ t. Copied s t c.args.buffer.now) all (none_copied s c.args.buffer.now c.requires),
+    )
+
+pub loop-item-preserved-then-is_written_alike : goal.loop-item-preserved-then-is_written_alike
+loop-item-preserved-then-is_written_alike c =
+    let s = c.args.sheet.now in
+    let t = c.loop-item.item-iterator.rest.now in
+    let u = c.next.new.self.rest.now in
+    let b = c.loop-item.buffer in
+    let placed = c.in_ok-place.field-0 in
+    let p = placed.place in
+    let held = c.loop-item.invariant in
+    let next = stepped s c.loop-item.item-iterator.sheet.now t u c.in-Some.item (Ok placed) held.0 c.in-Some.ensures.steps.1 c.in_ok-place.was in
+    let k = next.0 in
     let used = k.used in
-    let w = c.loop-rest.invariant.0 in
-    let counted = c.loop-rest.invariant.1 in
-    let bytes = c.loop-rest.invariant.2 in
-    let long = w.long in (
-      step s t u c.loop-rest.fields (c.loop-rest.fields + 1) (value_of c.in-Ok.field) w k refl,
+    let counted = held.2 in
+    let bytes = held.3 in
+    let long = held.1.long in
+    let left : IsLeft s t = subst (λ x. IsLeft x t) held.0 c.loop-item.item-iterator.left in
+    let size : length placed.bytes.now ≡ length t - length u = ap length next.2 ∙ simp length-take (omega arith) in (
+      c.next.ensures.steps.0 ∙ held.0,
+      step s t u c.loop-item.fields (c.loop-item.fields + 1) (value_of placed.field) held.1 k refl,
       omega arith,
       omega arith,
-      copy s t u b (take (length b - p) (drop p b)) c.is_written_alike.new.part (value_of c.in-Ok.field) p k w.place (omega arith) refl c.loop-rest.invariant.3 (take_rest b p) c.is_written_alike.ensures.writes,
+      copy s t u b (take (length b - p) (drop p b)) c.is_written_alike.new.part (value_of placed.field) p k (left ∙ ap (λ n. drop n s) (sym next.1)) (omega arith) next.1 held.4 (take_rest b p) c.is_written_alike.ensures.writes,
     )
 
 -- the field is alike, so control does not come here
-pub loop-rest-preserved : goal.loop-rest-preserved
-loop-rest-preserved c =
+pub loop-item-preserved : goal.loop-item-preserved
+loop-item-preserved c =
     let s = c.args.sheet.now in
-    let t = c.loop-rest.rest.now in
-    let u = c.read_field.result.1.now in
-    let b = c.loop-rest.buffer in
-    let p = length s - length t in
-    let e = c.read_field.ensures in
-    let k = took t u c.read_field.result.0 c.in-Ok.field c.in-Ok.is e.answer e.rest e.sound e.used in
+    let t = c.loop-item.item-iterator.rest.now in
+    let u = c.next.new.self.rest.now in
+    let b = c.loop-item.buffer in
+    let placed = c.in_ok-place.field-0 in
+    let p = placed.place in
+    let held = c.loop-item.invariant in
+    let next = stepped s c.loop-item.item-iterator.sheet.now t u c.in-Some.item (Ok placed) held.0 c.in-Some.ensures.steps.1 c.in_ok-place.was in
+    let k = next.0 in
     let used = k.used in
-    let long = c.loop-rest.invariant.0.long in
-    let same = c.loop-rest.invariant.3.long in
-    let room : length t - length u - 0 ≤ length (take (length b - p) (drop p b)) = simp (length-take, length-drop) (omega arith) in
-    let yes_it_is = c.is_written_alike.ensures.compares.1 (alike t u (take (length b - p) (drop p b)) (value_of c.in-Ok.field) (length t - length u - 0) k (omega arith) room) in
-    absurd (both_ways c.is_written_alike.result c.if-is_written_alike.false yes_it_is)
-
-pub returns : goal.returns
-returns c =
-    let none_left : length c.loop-rest.rest.now ≡ 0 = search rules in
-    let w = whole c.args.sheet.now c.loop-rest.rest.now c.loop-rest.fields c.loop-rest.invariant.0 none_left in
-    let bytes = c.loop-rest.invariant.2 in
-    (w.0, w.1, w.2, refl, c.loop-rest.invariant.1, omega arith, all_copied c.args.sheet.now c.loop-rest.rest.now c.loop-rest.buffer none_left c.loop-rest.invariant.3)
+    let long = held.1.long in
+    let same = held.4.long in
+    let place = next.1 in
+    let part = take (length b - p) (drop p b) in
+    let f = value_of placed.field in
+    let room : length t - length u ≤ length part = simp (length-take, length-drop) (omega arith) in
+    let found : Alike (encode f part) placed.bytes.now = subst (Alike (encode f part)) (sym next.2) (alike t u part f (length t - length u) k refl room) in
+    absurd (both_ways c.is_written_alike.result c.if-is_written_alike.false (c.is_written_alike.ensures.compares.1 found))

@@ -1,7 +1,11 @@
-use Rattle.std.proofs.Common.{◌≡◌, ◌++◌, drop}
+use Rattle.std.proofs.Common.{◌≡◌, ◌++◌, map, length}
 use Rattle.span.specs.Constraints.{order_edges}
-use Rattle.span.specs.Lists.{edges_of}
 use Rattle.span.proofs.constraints.list_order.Given as goal
 
-abbrev pub invariant-loop-p : goal.invariant-loop-p
-invariant-loop-p l = edges_of l.list ++ order_edges (drop l.p l.seats) (drop l.p l.ranks) ≡ edges_of l.initial.list ++ order_edges l.seats l.ranks
+abbrev pub invariant-loop-rest : goal.invariant-loop-rest
+invariant-loop-rest l =
+    l.list.items ++ order_edges (map (λ p. p.term) l.rest) (map (λ p. p.rank) l.rest)
+    ≡ l.initial.list.items ++ order_edges (map (λ p. p.term) l.placed) (map (λ p. p.rank) l.placed)
+
+abbrev pub decreases-loop-rest : goal.decreases-loop-rest
+decreases-loop-rest l = length l.rest

@@ -1,8 +1,7 @@
 use Rattle.std.proofs.Common.{◌≡◌, ◌++◌, drop}
 use Rattle.engine.specs.States.{active_rows}
 use Rattle.span.specs.Constraints.{row_edges}
-use Rattle.span.specs.Lists.{edges_of}
 use Rattle.span.proofs.constraints.list_rows.Given as goal
 
 abbrev pub invariant-loop-noted : goal.invariant-loop-noted
-invariant-loop-noted l = edges_of l.list ++ row_edges (active_rows (drop l.noted-index l.rows)) ≡ edges_of l.initial.list ++ row_edges (active_rows l.rows)
+invariant-loop-noted l = l.list.items ++ row_edges (active_rows (drop l.noted-index l.rows)) ≡ l.initial.list.items ++ row_edges (active_rows l.rows)

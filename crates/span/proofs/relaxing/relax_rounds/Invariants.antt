@@ -1,4 +1,4 @@
-use Rattle.std.proofs.Common.{◌≡◌, false, length}
+use Rattle.std.proofs.Common.{◌≡◌, None}
 use Rattle.span.proofs.Rounds.{AtRound, AtEdge}
 use Rattle.span.proofs.relaxing.relax_rounds.Given as goal
 
@@ -6,4 +6,4 @@ abbrev pub invariant-loop-edge : goal.invariant-loop-edge
 invariant-loop-edge l = AtEdge l.limit l.edges l.round l.initial.distances l.edge-index l.distances l.lowered
 
 abbrev pub invariant-rounds : goal.invariant-rounds
-invariant-rounds l = AtRound (length l.initial.distances) l.limit l.edges l.round l.distances × (l.stable ≡ false)
+invariant-rounds l = AtRound l.limit l.edges l.round l.distances × (l.settled ≡ None)

@@ -1,30 +1,20 @@
-use Rattle.std.proofs.Common.{◌≡◌, true, None, vec_items, sym, ap, ◌∙◌, arith}
+use Rattle.std.proofs.Common.{◌≡◌, length, true, Some, vec_items, ap, ◌∙◌, rules}
 use Rattle.engine.specs.Fitting.{all_rows_fit}
 use Rattle.engine.specs.Refusals.{row_refusal}
+use Rattle.engine.proofs.Answering.{none_from_ok, some_from_err}
 use Rattle.engine.proofs.Fitting.{row_passes, rows_push}
 use Rattle.engine.proofs.holdings.Holdings.note_row.Goals as goal
 
-pub invariant_of-self-2 : goal.invariant_of-self-2
-invariant_of-self-2 c =
+pub returns-in_err-check_row : goal.returns-in_err-check_row
+returns-in_err-check_row c =
+    let h = c.args.self.now in
+    let e : row_refusal (vec_items h.terms) (length (vec_items h.rows)) c.args.row ≡ Some c.in_err-check_row.field-0.0 =
+    some_from_err _ _ (rw (c.deref.ensures.value, c.len.ensures, h.rows.ok.0) at c.in_err-check_row.ensures) in
+    record { answers = rw e (search rules); leaves = rw e }
+
+pub invariant_of-self-2-clause-rows_fit : goal.invariant_of-self-2-clause-rows_fit
+invariant_of-self-2-clause-rows_fit c =
     let h = c.args.self.now in
     let ts = vec_items h.terms in
-    let taken : row_refusal ts c.len.result c.args.row ≡ None =
-    sym (c.in_default.ensures ∙ ap (λ us. row_refusal us c.len.result c.args.row) c.deref.ensures.value) in
-    let passes = row_passes ts c.len.result c.args.row taken in
-    let room = passes.room in
-    let fit : all_rows_fit ts (vec_items c.push_reserved.new.self) ≡ true =
-    ap (all_rows_fit ts) c.push_reserved.ensures.items ∙ rows_push ts (vec_items h.rows) (record { row = c.args.row; active = true }) h.rows_fit passes.fits in
-    record {
-      term_room = h.term_room;
-      seat_room = h.seat_room;
-      row_room = omega arith;
-      code_room = h.code_room;
-      few_terms = h.few_terms;
-      few_seats = h.few_seats;
-      few_rows = omega arith;
-      terms_fit = h.terms_fit;
-      seats_listed = h.seats_listed;
-      rows_fit = fit;
-      codes_fit = h.codes_fit;
-      codes_valid = h.codes_valid;
-    }
+    let passes = row_passes ts c.len.result c.args.row (none_from_ok _ _ (rw c.deref.ensures.value at c.in_ok-check_row.ensures)) in
+    ap (all_rows_fit ts) c.push_reserved.ensures.items ∙ rows_push ts (vec_items h.rows) (record { row = c.args.row; active = true }) h.rows_fit passes.fits
