@@ -24,7 +24,7 @@ use std::alloc::{AllocError, Global};
 #[derive(Drop)]
 pub struct Holdings {
     pub(crate) terms: Vec<Term>,
-    // the indices of the dated terms
+    // the indices of the dated terms, listed so that no call has to look for them; `seats_listed` says that they are just those
     pub(crate) seats: Vec<u8>,
     pub(crate) rows: Vec<Noted>,
     // the codes of the seats that are placed; a list of its own, since seats are there before they are placed

@@ -18,7 +18,8 @@ pub struct Tally {
     pub bytes_alike: usize,
 }
 
-// Writes each field into the buffer, at the place where it stands in the sheet, and compares the two.
+// Writes each field into the buffer, at the place where it stands in the sheet, and compares the two. The buffer is lent and as long
+// as the sheet, so nothing is allocated here.
 pub(crate) fn write_fields_back(sheet: &[u8], buffer: &mut [u8]) -> Result<Tally, Refusal>
     requires { length buffer.old ≡ length sheet.now }
     ensures { Ended sheet.now buffer.new result }

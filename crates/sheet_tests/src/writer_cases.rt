@@ -44,7 +44,7 @@ fn check_room(rt: &impl Abort, field: &Field<'_>, bytes: &[u8], room: usize) {
     assert_eq!(rt; answer.ok(), Some(bytes.len()), "{bytes:?}");
 }
 
-// Checks that the field is refused by this number, and that the buffer is as it was.
+// Checks that the field is refused by this number, as people see it, and that the buffer is as it was.
 fn check_refused(rt: &impl Abort, field: &Field<'_>, room: usize, number: u8) -> Result<(), Fail> {
     let mut buffer = [170; 32];
     match write_with_room(rt, field, &mut buffer, room, b"") {
