@@ -3,6 +3,7 @@ use Rattle.std.proofs.Common.{◌≡◌, ℕ, ◌+◌, ◌-◌, ◌≤◌, List,
 use Rattle.std.proofs.lemmas.List.{drop-drop}
 use Rattle.sheet.specs.declared.fault.Fault.{Fault}
 use Rattle.sheet.specs.declared.field.Field.{Field}
+use Rattle.sheet.specs.declared.fields.Fields.{Fields}
 use Rattle.sheet.specs.declared.fields.PlacedField.{PlacedField}
 use Rattle.sheet.specs.declared.refusal.Refusal.{Refusal}
 use Rattle.sheet.specs.Fields.{FieldValue, value_of}
@@ -30,3 +31,7 @@ left_after s t u f long left k =
 -- a step over the sheet s that gave y
 pub stepped : (s s' t u : List ℕ) (x y : Result PlacedField Refusal) → s' ≡ s → Next s' t (Some x) u → x ≡ y → Next s t (Some y) u
 stepped s s' t u x y sheet next is = subst (λ v. Next v t (Some y) u) sheet (subst (λ x. Next s' t (Some x) u) is next)
+
+-- a loop over the fields of s begins with all of it
+pub begun : (s : List ℕ) (made it : Fields) → it ≡ made → made.sheet.now ≡ s → made.rest.now ≡ s → (it.sheet.now ≡ s) × (s ≡ it.rest.now)
+begun s made it same sheet rest = (ap (λ (x : Fields). x.sheet.now) same ∙ sheet, sym (ap (λ (x : Fields). x.rest.now) same ∙ rest))

@@ -4,7 +4,7 @@ use Rattle.sheet.specs.declared.fault.Cause.TheVariants.{CutShort}
 use Rattle.sheet.specs.Causes.{fault_in, reader_letter}
 use Rattle.sheet.specs.Fields.{value_of}
 use Rattle.sheet.specs.Parsing.{parse}
-use Rattle.sheet.proofs.Taking.{stepped}
+use Rattle.sheet.proofs.Taking.{begun, stepped}
 use Rattle.fieldlist.specs.Lines.{field_line}
 use Rattle.fieldlist.specs.Listing.{Lines, is_term, none}
 use Rattle.fieldlist.proofs.Numbering.{lines_more}
@@ -14,10 +14,9 @@ use Rattle.fieldlist.proofs.listing.list_fields.Goals.{in-Term, in-Row}
 pub loop-item-init : goal.loop-item-init
 loop-item-init c =
     let s = c.args.sheet.now in
-    let at : c.into_iter-item-iterator.result ≡ c.new-item-items.result = c.into_iter-item-iterator.ensures.into_iter_gives in
-    let all : c.into_iter-item-iterator.result.rest.now ≡ s = ap (λ x. x.rest.now) at ∙ c.new-item-items.ensures.rest in
+    let b = begun s c.new-item-items.result c.into_iter-item-iterator.result c.into_iter-item-iterator.ensures.into_iter_gives c.new-item-items.ensures.sheet c.new-item-items.ensures.rest in
     let whole = subst (λ x. Lines s 0 0 x s) (sym c.new-text.ensures.bytes) none in
-    (ap (λ x. x.sheet.now) at ∙ c.new-item-items.ensures.sheet, subst (Lines s 0 0 (string_bytes c.new-text.result)) (sym all) whole, omega (arith, ap length all))
+    (b.0, subst (Lines s 0 0 (string_bytes c.new-text.result)) b.1 whole, omega (arith, ap length b.1))
 
 pub loop-item-preserved : goal.loop-item-preserved
 loop-item-preserved c =

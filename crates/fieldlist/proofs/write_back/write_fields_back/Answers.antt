@@ -4,7 +4,7 @@ use Rattle.std.proofs.lemmas.Bool.{both_ways}
 use Rattle.sheet.specs.Encoding.{encode}
 use Rattle.sheet.specs.Fields.{value_of}
 use Rattle.sheet.specs.Left.{IsLeft}
-use Rattle.sheet.proofs.Taking.{stepped}
+use Rattle.sheet.proofs.Taking.{begun, stepped}
 use Rattle.fieldlist.specs.WritingBack.{Alike}
 use Rattle.fieldlist.proofs.Walking.{Copied, Walked, start, step, alike, copy, none_copied}
 use Rattle.fieldlist.proofs.write_back.write_fields_back.Goals as goal
@@ -12,13 +12,12 @@ use Rattle.fieldlist.proofs.write_back.write_fields_back.Goals as goal
 pub loop-item-init : goal.loop-item-init
 loop-item-init c =
     let s = c.args.sheet.now in
-    let at = c.into_iter-item-iterator.ensures.into_iter_gives in
-    let all : s ≡ c.into_iter-item-iterator.result.rest.now = sym (ap (λ x. x.rest.now) at ∙ c.new-item-items.ensures.rest) in (
-      ap (λ x. x.sheet.now) at ∙ c.new-item-items.ensures.sheet,
-      subst (λ t. Walked s t 0) all (start s),
+    let b = begun s c.new-item-items.result c.into_iter-item-iterator.result c.into_iter-item-iterator.ensures.into_iter_gives c.new-item-items.ensures.sheet c.new-item-items.ensures.rest in (
+      b.0,
+      subst (λ t. Walked s t 0) b.1 (start s),
       refl,
-      omega (arith, ap length all),
-      subst (λ t. Copied s t c.args.buffer.now) all (none_copied s c.args.buffer.now c.requires),
+      omega (arith, ap length b.1),
+      subst (λ t. Copied s t c.args.buffer.now) b.1 (none_copied s c.args.buffer.now c.requires),
     )
 
 pub loop-item-preserved-then-is_written_alike : goal.loop-item-preserved-then-is_written_alike

@@ -1,7 +1,7 @@
 use Rattle.std.proofs.Common.{◌≡◌, ◌+◌, ◌++◌, ◌∷◌, [], ℕ, Bool, List, true, false, cond, Ok, sym, refl, ap, ◌∙◌, subst, append-nil}
 use Rattle.std.specs.Result.{is_ok}
 use Rattle.sheet.specs.Fields.{term_field, value_of}
-use Rattle.sheet.proofs.Taking.{stepped}
+use Rattle.sheet.proofs.Taking.{begun, stepped}
 use Rattle.parts.specs.Noting.{field_answer}
 use Rattle.parts.proofs.Accepting.{is_row, seat_of}
 use Rattle.parts.proofs.Walking.{Walked, no_row, ok_is, row_counts, start, step, term_counts}
@@ -12,11 +12,10 @@ pub loop-item-init : goal.loop-item-init
 loop-item-init g c =
     let f = g.E.Engine in
     let s = c.args.sheet.now in
-    let at = c.into_iter-item-iterator.ensures.into_iter_gives in
-    let all : s ≡ c.into_iter-item-iterator.result.rest.now = sym (ap (λ x. x.rest.now) at ∙ c.new-item-items.ensures.rest) in
+    let b = begun s c.new-item-items.result c.into_iter-item-iterator.result c.into_iter-item-iterator.ensures.into_iter_gives c.new-item-items.ensures.sheet c.new-item-items.ensures.rest in
     let listed : c.push.new.self.items ≡ 0 ∷ [] = c.push.ensures.items ∙ ap (λ xs. xs ++ 0 ∷ []) c.new-seats.ensures in (
-      ap (λ x. x.sheet.now) at ∙ c.new-item-items.ensures.sheet,
-      subst (λ t. Walked f.LETTER s t (f.state c.args.engine.now) 1 false c.push.new.self.items) all (start f.LETTER s (f.state c.args.engine.now) c.push.new.self.items c.requires listed),
+      b.0,
+      subst (λ t. Walked f.LETTER s t (f.state c.args.engine.now) 1 false c.push.new.self.items) b.1 (start f.LETTER s (f.state c.args.engine.now) c.push.new.self.items c.requires listed),
       refl,
     )
 
