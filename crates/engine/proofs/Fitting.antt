@@ -1,18 +1,21 @@
 -- Lists of accepted terms and rows, one more or one less of them.
-use Rattle.std.proofs.Common.{◌≡◌, ℕ, zero, suc, ◌<◌, ◌≤◌, Bool, true, false, not, ◌&&◌, List, [], ◌∷◌, ◌++◌, length, get_or, take, set, None, sym, refl, ap, ◌∙◌, subst, arith, length-append}
-use Rattle.std.proofs.lemmas.List.{append_assoc, append-nil, get_or_append_left}
+use Rattle.std.proofs.Common.{◌≡◌, ℕ, zero, suc, ◌+◌, ◌<◌, ◌≤◌, Bool, true, false, not, ◌&&◌, List, [], ◌∷◌, ◌++◌, length, get_or, take, set, All, Some, None, Option, sym, refl, ap, ◌∙◌, subst, add-zero, arith, length-append}
+use Rattle.std.proofs.lemmas.List.{append_assoc, append-nil, get_or_append_left, get_or_default, length_push}
 use Rattle.std.proofs.lemmas.List.Recursion.{and_push}
 use Rattle.std.proofs.lemmas.Bool.Decides.{nat_tests}
 use Rattle.std.proofs.lemmas.Bool.{and_parts, and_from}
+use Rattle.sheet.specs.declared.fault.Cause.{Cause}
 use Rattle.sheet.specs.declared.row.Row.{Row}
 use Rattle.sheet.specs.declared.row.Row.TheVariants.{Span, Same, Unlike}
+use Rattle.sheet.specs.declared.term.Form.{Form}
+use Rattle.sheet.specs.declared.term.Form.TheVariants.{Name, One, Two}
 use Rattle.sheet.specs.declared.term.Term.{Term}
 use Rattle.sheet.specs.Terms.{is_dated, well_lettered}
 use Rattle.engine.specs.declared.noted.Noted.{Noted}
 use Rattle.engine.specs.Terms.{is_dated_at, seats_of, arguments_below, any_count_differs, zero_term}
 use Rattle.engine.specs.Rows.{left_of, right_of, is_span_on_level}
 use Rattle.engine.specs.Refusals.{term_refusal, row_refusal}
-use Rattle.engine.specs.Fitting.{is_accepted, is_zero_term, terms_fit, all_terms_fit, row_fits, all_rows_fit}
+use Rattle.engine.specs.Fitting.{is_accepted, is_name, is_zero_term, terms_fit, all_terms_fit, row_fits, all_rows_fit}
 use Rattle.engine.specs.Calls.{rows_with_mark}
 use Rattle.engine.proofs.Seats.{seats_push}
 
@@ -96,3 +99,43 @@ rows_still ts t [] f = refl
 rows_still ts t (m ∷ ms) f =
     let p = and_parts (row_fits ts m.row) (all_rows_fit ts ms) f in
     and_from (row_fits (ts ++ t ∷ []) m.row) (all_rows_fit (ts ++ t ∷ []) ms) (row_still ts t m.row p.0) (rows_still ts t ms p.1)
+
+accepted_none : (o : Option Cause) → is_accepted o ≡ true → o ≡ None
+accepted_none None e = refl
+accepted_none (Some c) e = cc
+
+pub below_more : (n m : ℕ) (f : Form) → n ≤ m → arguments_below n f ≡ true → arguments_below m f ≡ true
+below_more n m Name l h = refl
+below_more n m (One a x) l h = grind (arith, nat_tests)
+below_more n m (Two a x y) l h = grind (arith, nat_tests)
+
+zero_has_none : (t : Term) → is_zero_term t ≡ true → arguments_below 0 t.form ≡ true
+zero_has_none t h = no_arguments t.form (and_parts (is_dated t.kind) (is_name t.form) h).1
+  where
+    no_arguments : (f : Form) → is_name f ≡ true → arguments_below 0 f ≡ true
+    no_arguments Name e = refl
+    no_arguments (One a x) e = cc
+    no_arguments (Two a x y) e = cc
+
+-- each of the terms was accepted after those before it, so its arguments are earlier terms
+fit_earlier : (before ts : List Term) (i : ℕ) → terms_fit before ts ≡ true → i < length ts → arguments_below (length before + i) (get_or ts i zero_term).form ≡ true
+fit_earlier before [] i f l = absurd (omega arith)
+fit_earlier before (t ∷ ts) zero f l =
+    let p = and_parts (is_accepted (term_refusal before t)) (terms_fit (before ++ t ∷ []) ts) f in
+    subst (λ n. arguments_below n t.form ≡ true) (sym (add-zero (length before))) (term_passes before t (accepted_none (term_refusal before t) p.0)).earlier
+fit_earlier before (t ∷ ts) (suc i) f l =
+    let p = and_parts (is_accepted (term_refusal before t)) (terms_fit (before ++ t ∷ []) ts) f in
+    let e : length (before ++ t ∷ []) + i ≡ length before + suc i = omega (arith, length_push before t) in
+    subst (λ n. arguments_below n (get_or ts i zero_term).form ≡ true) e (fit_earlier (before ++ t ∷ []) ts i p.1 (omega arith))
+
+pub arguments_earlier : (ts : List Term) (i : ℕ) → all_terms_fit ts ≡ true → i < length ts → arguments_below i (get_or ts i zero_term).form ≡ true
+arguments_earlier [] i f l = absurd (omega arith)
+arguments_earlier (t ∷ ts) zero f l = zero_has_none t (and_parts (is_zero_term t) (terms_fit (t ∷ []) ts) f).0
+arguments_earlier (t ∷ ts) (suc i) f l =
+    subst (λ n. arguments_below n (get_or ts i zero_term).form ≡ true) (omega arith)
+    (fit_earlier (t ∷ []) ts i (and_parts (is_zero_term t) (terms_fit (t ∷ []) ts) f).1 (omega arith))
+
+-- so each is one of the terms
+pub arguments_are_terms : (ts : List Term) → all_terms_fit ts ≡ true → All (λ t. arguments_below (length ts) t.form ≡ true) ts
+arguments_are_terms ts f =
+    λ i d l. subst (λ (t : Term). arguments_below (length ts) t.form ≡ true) (get_or_default ts i zero_term d l) (below_more i (length ts) (get_or ts i zero_term).form (omega arith) (arguments_earlier ts i f l))

@@ -7,7 +7,7 @@ use Rattle.std.proofs.lemmas.Int.{ints}
 use Rattle.sheet.specs.declared.row.Row.{Row}
 use Rattle.sheet.specs.declared.term.Term.{Term}
 use Rattle.engine.specs.Dates.{Greatest, GreatestDates}
-use Rattle.engine.specs.Rules.{SpanAllowed, SpanHolds, seat_numbers}
+use Rattle.engine.specs.Rules.{EqualityHolds, SpanAllowed, SpanHolds, TableAllowed, seat_numbers}
 use Rattle.engine.specs.Terms.{seats_of}
 
 all_without : {X : Type 0} (P : X → Type 0) (front back : List X) (x : X) → All P (front ++ x ∷ back) → All P (front ++ back)
@@ -17,6 +17,10 @@ all_without P (y ∷ front) back x a = All-cons P y (front ++ back) (All-head P 
 -- what is allowed stays allowed when a row is left out
 pub span_rule_without : (ts : List Term) (front back : List Row) (r : Row) (codes : List ℕ) → SpanAllowed ts (front ++ r ∷ back) codes → SpanAllowed ts (front ++ back) codes
 span_rule_without ts front back r codes (v, f) = (v, record { hold = all_without (SpanHolds v) front back r f.hold; ordered = f.ordered })
+
+pub table_rule_without : (ts : List Term) (front back : List Row) (r : Row) (codes : List ℕ) → TableAllowed ts (front ++ r ∷ back) codes → TableAllowed ts (front ++ back) codes
+table_rule_without ts front back r codes a =
+    record { tables = a.tables; numbers = a.numbers; interprets = a.interprets; hold = all_without (EqualityHolds a.numbers) front back r a.hold; blocks = a.blocks }
 
 -- a greatest number is not above another
 not_above : (ts : List Term) (rows : List Row) (codes : List ℕ) (g h : ℕ → ℤ) → Greatest ts rows codes g → Greatest ts rows codes h → (p : ℕ) → p < length (seats_of ts) → g p ≤ℤ h p

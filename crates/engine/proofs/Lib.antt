@@ -1,10 +1,13 @@
 pub mod Answering
 pub mod Bounds
 pub mod Codes
+pub mod Completing
 pub mod Fitting
 pub mod Following
+pub mod Lists
 mod LowRanks
 pub mod Ranks
 pub mod Seats
 pub mod Using
 pub mod Laws
+pub mod Placing

@@ -10,4 +10,5 @@ pub mod Calls
 pub mod Dates
 pub mod Fitting
 pub mod Holding
+pub mod Placing
 pub mod Letters

@@ -9,11 +9,13 @@ ghost use Rattle.engine.specs.States.{new_state};
 ghost use Rattle.engine.specs.Terms.{seats_of};
 ghost use Rattle.sheet.specs.Terms.{is_dated};
 
-use crate::arrangement::count_blocks;
+use crate::arrangement::{count_blocks, rank_seats};
 use crate::limits::{MAX_ROWS, MAX_SEATS, MAX_TERMS};
 use crate::noted::Noted;
+use crate::placed::{Placed, place_seats};
 use crate::refusals::{check_row, check_term};
 use crate::terms::ZERO;
+use arrayvec::ArrayVec;
 use sheet::fault::Cause;
 use sheet::row::Row;
 use sheet::term::Term;
@@ -45,6 +47,7 @@ pub struct Holdings {
 
 impl Holdings {
     ghost use Rattle.engine.specs.Holding.{state_of};
+    ghost use Rattle.engine.specs.Placing.{placed_seats};
 
     // Zero, no row and no code.
     pub fn new(heap: Global) -> Result<Holdings, AllocError>
@@ -64,6 +67,12 @@ impl Holdings {
         })
     }
 
+    pub fn terms(&self) -> &[Term]
+        ensures { result.now ≡ (state_of self.now).terms }
+    {
+        self.terms.as_slice()
+    }
+
     // The indices of the dated terms.
     pub fn seats(&self) -> &[u8]
         ensures { result.now ≡ seats_of (state_of self.now).terms }
@@ -81,6 +90,15 @@ impl Holdings {
         ensures { result.now ≡ (state_of self.now).codes }
     {
         self.codes.as_slice()
+    }
+
+    // Each seat that has a code, by its term and its rank.
+    #[tactic(auto, using(crate::proofs::Placing::placed_ranks))]
+    pub fn placed_seats(&self) -> ArrayVec<Placed, MAX_SEATS>
+        ensures { result.items ≡ placed_seats (state_of self.now) }
+    {
+        let ranks = rank_seats(&self.codes);
+        place_seats(&self.seats, ranks.as_slice())
     }
 
     // Term 0 is zero and has the first seat, so only what follows is dropped.

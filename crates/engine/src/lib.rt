@@ -6,6 +6,7 @@ pub mod engine;
 pub mod holdings;
 pub mod limits;
 pub mod noted;
+pub mod placed;
 pub mod refusals;
 mod rows;
 pub mod terms;

@@ -59,6 +59,14 @@ cond_ok : (b : Bool) (letter : ℕ) (o : Option Cause) (e : Fault) → cond b (E
 cond_ok true letter o e h = let z : ◌≡◌ {A = ℕ} 0 1 = cc in absurd (omega arith)
 cond_ok false letter o e h = (refl, accepted_is letter o tt (sym h))
 
+-- what is accepted with one letter is accepted with each: letters stand in refusals alone
+pub accepted_by_each : (a b : ℕ) (s : State) (f : FieldValue) → field_answer a s f ≡ Ok tt → field_answer b s f ≡ Ok tt
+accepted_by_each a b s (term_field x l) ok =
+    let late = fault_in load_letter TermAfterRow in
+    let w = cond_ok (row_stands s) a (on_note_term s x).refusal late ok in
+    λ i. cond (w.0 i) (Err late) (answer_in b (w.1 i))
+accepted_by_each a b s (row_field r) ok = ap (answer_in b) (accepted_is a (on_note_row s r).refusal tt (sym ok))
+
 pub accepted : (letter : ℕ) (s : State) (f : FieldValue) → Sound s → field_answer letter s f ≡ Ok tt → Accepted s f
 accepted letter s (term_field x l) k ok =
     let w = cond_ok (row_stands s) letter (on_note_term s x).refusal (fault_in load_letter TermAfterRow) ok in

@@ -1,7 +1,9 @@
--- What is said of a sheet is said of no other answer: the walk, the refusal and the first arrangement are the only ones.
-use Rattle.std.proofs.Common.{◌≡◌, ℕ, ◌<◌, ◌⊎◌, List, [], ◌∷◌, ◌++◌, length, drop, Ok, Err, Result, sym, refl, ap, ◌∙◌, subst, inl, inr, ⊎_elim, arith, length-drop}
+-- What is said of a sheet is said of no other answer: the walk, the refusal and the first arrangement are the only ones, and a sheet that one
+-- engine takes no engine refuses.
+use Rattle.std.proofs.Common.{◌≡◌, ℕ, ◌<◌, ◌⊎◌, Bool, List, [], ◌∷◌, ◌++◌, length, drop, ℤ, Some, None, Ok, Err, Option, Result, sym, refl, ap, ◌∙◌, subst, inl, inr, ⊎_elim, arith, length-drop}
 use Rattle.std.proofs.lemmas.List.{append_cancel_left}
 use Rattle.std.proofs.lemmas.Bool.{cases_order}
+use Rattle.arrayvec.specs.ArrayVec.{ArrayVec}
 use Rattle.sheet.specs.declared.fault.Cause.TheVariants.{CutShort}
 use Rattle.sheet.specs.declared.fault.Fault.{Fault}
 use Rattle.sheet.specs.declared.row.Row.{Row}
@@ -10,10 +12,14 @@ use Rattle.sheet.specs.Causes.{fault_in, reader_letter}
 use Rattle.sheet.specs.Fields.{FieldValue}
 use Rattle.sheet.specs.Parsing.{parse, remaining}
 use Rattle.engine.specs.Arrangements.{Before}
+use Rattle.engine.specs.Rows.{RowKind}
 use Rattle.engine.specs.States.{State, new_state}
 use Rattle.sheet.specs.declared.refusal.Refusal.{Refusal}
+use Rattle.parts.specs.declared.seat.Seat.{Seat}
+use Rattle.parts.specs.Diagnoses.{InstantsDiagnosed}
 use Rattle.parts.specs.First.{FirstCompletion}
 use Rattle.parts.specs.Noting.{RefusedAt, FieldsNoted, after_field, field_answer, front_answer, more, none}
+use Rattle.parts.proofs.Accepting.{accepted_by_each}
 
 -- fields noted from the state s on, where `left` is left, up to the state t, where `right` is left
 data Onward (letter : ℕ) : State → List ℕ → State → List ℕ → Type 0 where
@@ -50,6 +56,10 @@ one_end {letter} {q} {from = from} (on f read ok w) here stop halt = absurd (goe
 one_end {letter} {q} {s} {t} {from} {left} {right} (on f read ok v) (on h read' ok' w) stop halt =
     one_end v (subst (λ x. Onward letter (after_field q x) (remaining from) t right) (sym (same_field (parse from) f h read read')) w) stop halt
 
+noted_by_each : (a b : ℕ) {sheet left : List ℕ} {s : State} → FieldsNoted a sheet s left → FieldsNoted b sheet s left
+noted_by_each a b none = none
+noted_by_each a b (more {s = s} {f = f} w read ok) = more (noted_by_each a b w) read (accepted_by_each a b s f ok)
+
 module _ (letter : ℕ) (sheet : List ℕ) where
   at_end : (s : State) → Stops letter s []
   at_end s = (fault_in reader_letter CutShort, refl)
@@ -63,9 +73,9 @@ module _ (letter : ℕ) (sheet : List ℕ) where
   pub whole_once : (s t : State) → FieldsNoted letter sheet s [] → FieldsNoted letter sheet t [] → s ≡ t
   whole_once s t x y = (one_end (from_start x) (from_start y) (at_end s) (at_end t)).0
 
-  -- a sheet that is noted whole is not refused
-  pub not_refused : (s t : State) (e : Refusal) → FieldsNoted letter sheet s [] → RefusedAt letter sheet t e → ⊥
-  not_refused s t e x y = not_at_end e.place y.at.within (sym (one_end (from_start x) (from_start y.at.walk) (at_end s) (e.fault, y.at.stops)).1)
+  -- a sheet that an engine with one letter noted whole is not refused with another
+  pub not_refused : (other : ℕ) (s t : State) (e : Refusal) → FieldsNoted other sheet s [] → RefusedAt letter sheet t e → ⊥
+  not_refused other s t e x y = not_at_end e.place y.at.within (sym (one_end (from_start (noted_by_each other letter x)) (from_start y.at.walk) (at_end s) (e.fault, y.at.stops)).1)
 
   pub same_refusal : (a b : Refusal) (s t : State) → RefusedAt letter sheet s a → RefusedAt letter sheet t b → a ≡ b
   same_refusal a b s t x y =
@@ -75,6 +85,11 @@ module _ (letter : ℕ) (sheet : List ℕ) where
       let faults : ◌≡◌ {A = Result (Unit {0}) Fault} (Err a.fault) (Err b.fault) = sym x.at.stops ∙ front ∙ y.at.stops in
       let fault : a.fault ≡ b.fault = cc in
       λ i. record { fault = fault i; place = place i }
+
+-- nor is one that an engine took, whether its instants are met or not
+pub taken_not_refused : (rule : List Term → List Row → List ℕ → Type 0) (counts : RowKind → Bool) (picks : List Term → List Row → List ℕ → List ℤ → Type 0) (letter other : ℕ) (sheet : List ℕ) (s t : State) (seats : Option (ArrayVec Seat)) (e : Refusal) → InstantsDiagnosed rule counts picks letter sheet s (Ok seats) → RefusedAt other sheet t e → ⊥
+taken_not_refused rule counts picks letter other sheet s t (Some seats) e x y = not_refused other sheet letter x.noted t e x.walk y
+taken_not_refused rule counts picks letter other sheet s t None e x y = not_refused other sheet letter s t e x.walk y
 
 -- of two lists of codes of one length one comes before the other, or they are equal
 ordered : (cs ds : List ℕ) → length cs ≡ length ds → (cs ≡ ds) ⊎ (Before cs ds ⊎ Before ds cs)

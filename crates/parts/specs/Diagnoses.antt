@@ -1,5 +1,5 @@
--- What an engine that dates says of a whole sheet.
-use Rattle.std.specs.Prelude.{◌≡◌, ℕ, Bool, List, [], ℤ, Some, None, Ok, Err, Option, Result}
+-- What the engines say of a whole sheet.
+use Rattle.std.specs.Prelude.{◌≡◌, ◌↔◌, ℕ, Bool, IsTrue, List, [], ℤ, Some, None, Ok, Err, Option, Result}
 use Rattle.arrayvec.specs.ArrayVec.{ArrayVec}
 use Rattle.sheet.specs.declared.refusal.Refusal.{Refusal}
 use Rattle.sheet.specs.declared.row.Row.{Row}
@@ -8,11 +8,13 @@ use Rattle.engine.specs.Dates.{Dated}
 use Rattle.engine.specs.Rows.{RowKind}
 use Rattle.engine.specs.States.{State, Completion, with_codes}
 use Rattle.engine.specs.Terms.{seats_of}
+use Rattle.parts.specs.declared.diagnosis.Findings.{Findings}
 use Rattle.parts.specs.declared.seat.Seat.{Seat}
 use Rattle.parts.specs.First.{FirstCompletion}
 use Rattle.parts.specs.Noting.{RefusedAt, FieldsNoted}
 use Rattle.parts.specs.Seats.{seats_with}
 
+-- an engine that dates was given the sheet, and holds t then
 module _ (rule : List Term → List Row → List ℕ → Type 0) (counts : RowKind → Bool) (picks : List Term → List Row → List ℕ → List ℤ → Type 0) (letter : ℕ) (sheet : List ℕ) (t : State) where
   -- the whole sheet is noted, the codes are the first arrangement that is allowed, and the dates are right for it
   pub record MetBy (seats : List Seat) : Type 0 where
@@ -31,8 +33,27 @@ module _ (rule : List Term → List Row → List ℕ → Type 0) (counts : RowKi
     pub walk : FieldsNoted letter sheet t []
     pub closed : Completion rule t → ⊥
 
-  -- the engine holds t then
-  abbrev pub Diagnosed : Result (Option (ArrayVec Seat)) Refusal → Type 0
-  Diagnosed (Ok (Some seats)) = MetBy seats.items
-  Diagnosed (Ok None) = UnmetBy
-  Diagnosed (Err e) = RefusedAt letter sheet t e
+  -- the seats in that arrangement, or nothing, or why the sheet is refused
+  abbrev pub InstantsDiagnosed : Result (Option (ArrayVec Seat)) Refusal → Type 0
+  InstantsDiagnosed (Ok (Some seats)) = MetBy seats.items
+  InstantsDiagnosed (Ok None) = UnmetBy
+  InstantsDiagnosed (Err e) = RefusedAt letter sheet t e
+
+-- any engine was given the sheet, and holds t then
+module _ (rule : List Term → List Row → List ℕ → Type 0) (letter : ℕ) (sheet : List ℕ) (t : State) where
+  -- the whole sheet is noted, which places no code, and the answer says whether any arrangement is allowed
+  pub record AnsweredBy (b : Bool) : Type 0 where
+    pub walk : FieldsNoted letter sheet t []
+    pub answered : IsTrue b ↔ Completion rule t
+
+  -- that answer, or why the sheet is refused
+  abbrev pub LevelsDiagnosed : Result Bool Refusal → Type 0
+  LevelsDiagnosed (Ok b) = AnsweredBy b
+  LevelsDiagnosed (Err e) = RefusedAt letter sheet t e
+
+-- an engine that dates was given the sheet, and holds t then; and after it a second engine, which held u₀ before and holds u then. Either each
+-- tells what it allows, or the first refuses the sheet and the second is not touched
+module _ (rule : List Term → List Row → List ℕ → Type 0) (counts : RowKind → Bool) (picks : List Term → List Row → List ℕ → List ℤ → Type 0) (letter : ℕ) (levels_rule : List Term → List Row → List ℕ → Type 0) (levels_letter : ℕ) (sheet : List ℕ) (t u₀ u : State) where
+  abbrev pub Diagnosed : Result Findings Refusal → Type 0
+  Diagnosed (Ok f) = InstantsDiagnosed rule counts picks letter sheet t (Ok f.instants) × LevelsDiagnosed levels_rule levels_letter sheet u (Ok f.levels)
+  Diagnosed (Err e) = RefusedAt letter sheet t e × (u ≡ u₀)

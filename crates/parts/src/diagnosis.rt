@@ -1,10 +1,9 @@
-// Whether an engine that dates can meet a sheet.
+// What two engines say of a sheet: one that dates says of its instants, the other of its levels.
 ghost use Rattle.std.specs.Prelude.{◌≡◌};
 ghost use Rattle.parts.specs.Diagnoses.{Diagnosed};
-ghost use Rattle.parts.specs.Seats.{seats_with};
 
-use crate::note_sheet::note_sheet;
-use crate::place_first::place_first;
+use crate::instants::place_instants;
+use crate::levels::ask_levels;
 use crate::seat::Seat;
 use arrayvec::ArrayVec;
 use engine::dating::Dating;
@@ -12,43 +11,37 @@ use engine::engine::Engine;
 use engine::limits::MAX_SEATS;
 use sheet::refusal::Refusal;
 
-// The seats in the first arrangement that is allowed, or nothing where none is; or why the sheet is refused.
-pub type Diagnosis = Result<Option<ArrayVec<Seat, MAX_SEATS>>, Refusal>;
-
-// Notes the sheet in the engine, places the seats and dates them. The clause names what the engine means part by part, as the
-// interface has it: one ghost member for the four would be one more thing that each engine has to write.
-pub(crate) fn diagnose<E: Dating>(engine: &mut E, sheet: &[u8]) -> Diagnosis
-    ensures tells { let made_with = E.setting engine.old in
-        Diagnosed (E.rule made_with) E.counts (E.picks made_with) E.LETTER sheet.now (E.state engine.new) result }
-    ensures keeps { E.setting engine.new ≡ E.setting engine.old }
-{
-    let terms = note_sheet(engine, sheet)?;
-    let Some(codes) = place_first(engine) else {
-        return Ok(None);
-    };
-    match engine.dates() {
-        Ok(dates) => Ok(Some(list_seats(&terms, codes.as_slice(), dates.as_slice()))),
-        // It does not come to this: every seat is placed, and the arrangement is allowed.
-        Err(_) => Ok(None),
-    }
+// What the engines say of a sheet.
+#[derive(Debug, Drop, PartialEq, Eq)]
+pub struct Findings {
+    // the seats in the first arrangement that is allowed, or nothing where none is
+    pub instants: Option<ArrayVec<Seat, MAX_SEATS>>,
+    // whether the second engine allows any arrangement
+    pub levels: bool,
 }
 
-// The seats with these terms, codes and dates, in the order of their places.
-fn list_seats(
-    terms: &ArrayVec<u8, MAX_SEATS>,
-    codes: &[u8],
-    dates: &[i64],
-) -> ArrayVec<Seat, MAX_SEATS>
-    ensures { result.items ≡ seats_with terms.now.items codes.now dates.now }
+// What the engines say of a sheet, or why it is refused.
+pub type Diagnosis = Result<Findings, Refusal>;
+
+// Asks the first engine for the seats, and then the second one whether it is open; of a sheet that the first refuses it is not asked. The
+// clause names what the engines mean part by part, as the interfaces have it: one ghost member for all would be one more thing that each
+// engine has to write.
+pub(crate) fn diagnose<D: Dating, E: Engine>(
+    instants: &mut D,
+    levels: &mut E,
+    sheet: &[u8],
+) -> Diagnosis
+    ensures tells { let made_with = D.setting instants.old in
+        Diagnosed (D.rule made_with) D.counts (D.picks made_with) D.LETTER (E.rule (E.setting levels.old)) E.LETTER
+        sheet.now (D.state instants.new) (E.state levels.old) (E.state levels.new) result }
+    ensures keeps_instants { D.setting instants.new ≡ D.setting instants.old }
+    ensures keeps_levels { E.setting levels.new ≡ E.setting levels.old }
 {
-    let mut seats = ArrayVec::new();
-    for (place, ((term, code), date)) in terms.iter().zip(codes).zip(dates).enumerate() {
-        seats.push(Seat {
-            place,
-            term: *term,
-            code: *code,
-            date: *date,
-        });
-    }
-    seats
+    let seats = place_instants(instants, sheet)?;
+    // It is not refused here: what one engine takes every engine takes.
+    let open = ask_levels(levels, sheet)?;
+    Ok(Findings {
+        instants: seats,
+        levels: open,
+    })
 }

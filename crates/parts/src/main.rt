@@ -1,8 +1,11 @@
 #![tactic(auto)]
-// Says whether the instants of a sheet alone can be met, with the first arrangement and its dates if they can.
+// Says whether the instants of a sheet alone can be met, with the first arrangement and its dates if they can, and whether its levels
+// alone can be met.
 #[cfg(test)]
 mod cases;
 mod diagnosis;
+mod instants;
+mod levels;
 mod note_sheet;
 mod place_first;
 mod report;
@@ -10,22 +13,29 @@ mod seat;
 
 use crate::report::report_sheet;
 use engine::dating::Dating;
+use engine::engine::Engine;
 use program::host::Program;
 use span::span::Span;
+use table::table::Table;
 
 const HELP: &str = "usage: parts < SHEET
 
-Says whether the instants of the sheet on standard input alone can be met: its dated terms and its spans.
-At most the first 8192 bytes are read. Levels, tables, same and unlike rows are noted and do not count.
-The first line is one of these:
-  met                           and a line for each dated term follows, zero first:
+Says of two parts of the sheet on standard input whether each can be met by itself:
+  instants    the dated terms and the spans; levels, tables, same and unlike rows do not count
+  levels      all terms, their tables, and the same and unlike rows; spans do not count
+Both may be met although the two together are not.
+At most the first 8192 bytes are read. The first line is one of these:
+  instants met                  and a line for each dated term follows, zero first:
                                 seat PLACE term INDEX code CODE date DATE
-  unmet                         no dates make every span true
-  refused NUMBER LAYER PLACE    the field that starts at byte PLACE is refused
+  instants unmet                no dates make every span true
+  refused NUMBER LAYER PLACE    the field that starts at byte PLACE is refused; no line follows
+Unless it is refused, the last line is one of these:
+  levels met
+  levels unmet                  no numbers and tables make every same and unlike row true
 
 samples/ has sheets to try, and tools/mksheet makes one from a readable text:
   tools/mksheet < samples/five-lines.txt > my.sheet
-docs/MEANING.md says what terms, spans and codes are, docs/REFUSALS.md what each number means.";
+docs/MEANING.md says what terms, rows and codes are, docs/REFUSALS.md what each number means.";
 
 fn main(rt: HostRuntime) -> anyhow::Result<()> {
     run(&rt)
@@ -40,17 +50,19 @@ fn run(rt: &HostRuntime) -> anyhow::Result<()> {
     let Some(sheet) = program.sheet()? else {
         return Ok(());
     };
-    let mut engine = Span::new(rt.alloc())?;
-    print_report(&program, &mut engine, sheet.as_slice())
+    let mut instants = Span::new(rt.alloc())?;
+    let mut levels = Table::new(rt.alloc())?;
+    print_report(&program, &mut instants, &mut levels, sheet.as_slice())
 }
 
-// Prints what the engine says of the sheet.
-fn print_report<E: Dating>(
+// Prints what the engines say of the sheet.
+fn print_report<D: Dating, E: Engine>(
     program: &Program<'_>,
-    engine: &mut E,
+    instants: &mut D,
+    levels: &mut E,
     sheet: &[u8],
 ) -> anyhow::Result<()> {
-    let report = report_sheet(program.rt.alloc(), engine, sheet)?;
+    let report = report_sheet(program.rt.alloc(), instants, levels, sheet)?;
     let text = report.text.as_str();
     println!(program.rt; "{text}")?;
     if let Err(refusal) = report.diagnosis {

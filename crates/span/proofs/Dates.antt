@@ -25,7 +25,7 @@ use Rattle.span.specs.Constraints.{order_edges, row_edges}
 use Rattle.span.specs.Dating.{InLimits, counts_spans, from_zero}
 use Rattle.span.specs.Decisions.{becomes_stable_of, constraints_of, distances_of}
 use Rattle.span.proofs.Limits.{EdgeFits, edges_among, edges_fit, edges_heavier, within}
-use Rattle.span.proofs.Pairs.{all_front}
+use Rattle.engine.proofs.Lists.{all_front}
 use Rattle.span.proofs.Rounds.{stored}
 use Rattle.span.proofs.Solutions.{fits_solve, solutions_fit}
 

@@ -1,19 +1,13 @@
 -- What holds of every edge of the order holds of each pair of seats, and the other way round.
-use Rattle.std.specs.Prelude.{◌≡◌, ℕ, zero, suc, ◌+◌, ◌<◌, List, [], ◌∷◌, ◌++◌, length, pos, ◌<ℤ◌, slice_index, All}
-use Rattle.std.proofs.Common.{subst, arith}
+use Rattle.std.specs.Prelude.{◌≡◌, ℕ, zero, suc, ◌<◌, List, [], ◌∷◌, length, pos, ◌<ℤ◌, slice_index, All}
+use Rattle.std.proofs.Common.{arith}
 use Rattle.std.proofs.lemmas.List.Elements.{All-nil, All-append}
-use Rattle.std.proofs.lemmas.List.{get_or_append_left, get_or-append-add, length-append}
 use Rattle.std.proofs.lemmas.Int.{ints}
 use Rattle.graph.specs.declared.Edge.{Edge}
 use Rattle.graph.specs.Graph.{EdgeHolds}
 use Rattle.engine.specs.Meaning.{Numbers}
+use Rattle.engine.proofs.Lists.{all_front, all_back}
 use Rattle.span.specs.Constraints.{edge, pair_edges, edges_with, order_edges}
-
-pub all_front : {X : Type 0} (P : X → Type 0) (xs ys : List X) → All P (xs ++ ys) → All P xs
-all_front P xs ys a k d l = subst P (get_or_append_left xs ys d k l) (a k d (omega (arith, length-append xs ys)))
-
-pub all_back : {X : Type 0} (P : X → Type 0) (xs ys : List X) → All P (xs ++ ys) → All P ys
-all_back P xs ys a k d l = subst P (get_or-append-add xs ys k d) (a (length xs + k) d (omega (arith, length-append xs ys)))
 
 -- the numbers of two seats are in the order of their ranks
 pub record PairInOrder (v : Numbers) (s r t q : ℕ) : Type 0 where

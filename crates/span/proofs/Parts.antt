@@ -1,14 +1,13 @@
 -- The edges that are listed: those of placed seats, and how many at most.
-use Rattle.std.specs.Prelude.{◌≡◌, ℕ, suc, ◌+◌, ◌*◌, ◌≤◌, Bool, true, false, cond, List, [], ◌∷◌, ◌++◌, map, length, take, refl}
+use Rattle.std.specs.Prelude.{◌≡◌, ℕ, suc, ◌+◌, ◌*◌, ◌≤◌, Bool, true, false, cond, List, [], ◌∷◌, ◌++◌, map, length, refl}
 use Rattle.std.specs.List.{zip}
 use Rattle.std.proofs.Common.{ap, arith, length-append, mul-le-mul_right}
-use Rattle.std.proofs.lemmas.List.{take_all}
 use Rattle.sheet.specs.declared.row.Row.{Row}
 use Rattle.sheet.specs.declared.row.Row.TheVariants.{Span, Same, Unlike}
 use Rattle.engine.specs.declared.noted.Noted.{Noted}
-use Rattle.engine.specs.Arrangements.{ranks}
 use Rattle.engine.specs.States.{active_rows}
-use Rattle.span.specs.Constraints.{row_edges, pair_edges, edges_with, order_edges, placed_at}
+use Rattle.engine.specs.Placing.{placed_at}
+use Rattle.span.specs.Constraints.{row_edges, pair_edges, edges_with, order_edges}
 
 -- placed seats in the place of two lists
 placed_with : (s r : ℕ) (ss rs : List ℕ) → edges_with s r (map (λ p. p.term) (map placed_at (zip ss rs))) (map (λ p. p.rank) (map placed_at (zip ss rs))) ≡ edges_with s r ss rs
@@ -48,7 +47,3 @@ order_few (s ∷ ss) (r ∷ rs) = omega (arith, length-append (edges_with s r ss
 
 pub few_pairs : (ss rs : List ℕ) → length ss ≤ 8 → length (order_edges ss rs) ≤ 56
 few_pairs ss rs l = omega (arith, order_few ss rs, mul-le-mul_right (length ss) l)
-
--- no more than eight seats are placed
-pub placed_ranks : (codes : List ℕ) → length codes ≤ 8 → ranks (take 8 codes) ≡ ranks codes
-placed_ranks codes few = ap ranks (take_all 8 codes few)

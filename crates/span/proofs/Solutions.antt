@@ -14,7 +14,8 @@ use Rattle.engine.specs.Rules.{SpanFits, SpanHolds}
 use Rattle.engine.specs.Terms.{seats_of}
 use Rattle.engine.proofs.Ranks.{length_ranks}
 use Rattle.span.specs.Constraints.{constraints, order_edges, row_edges}
-use Rattle.span.proofs.Pairs.{all_back, all_front, all_order, order_at, order_pair, pair_order}
+use Rattle.engine.proofs.Lists.{all_back, all_front}
+use Rattle.span.proofs.Pairs.{all_order, order_at, order_pair, pair_order}
 
 rows_solved : (v : Numbers) (rows : List Row) → All (SpanHolds v) rows → All (EdgeHolds v) (row_edges rows)
 rows_solved v [] h = All-nil _

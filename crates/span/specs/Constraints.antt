@@ -7,7 +7,6 @@ use Rattle.sheet.specs.declared.row.Row.TheVariants.{Span, Same, Unlike}
 use Rattle.sheet.specs.declared.term.Term.{Term}
 use Rattle.engine.specs.Arrangements.{ranks}
 use Rattle.engine.specs.Terms.{seats_of}
-use Rattle.span.specs.declared.constraints.Placed.{Placed}
 
 abbrev pub edge : ℕ → ℕ → ℤ → Edge
 edge to from weight = record { to = to; from = from; weight = weight }
@@ -18,10 +17,6 @@ row_edges [] = []
 row_edges (Span i j c ∷ rows) = edge i j c ∷ row_edges rows
 row_edges (Same i j ∷ rows) = row_edges rows
 row_edges (Unlike i j ∷ rows) = row_edges rows
-
--- a seat with its term and its rank
-abbrev pub placed_at : ℕ × ℕ → Placed
-placed_at p = record { term = p.0; rank = p.1 }
 
 -- the terms s and t have seats with the ranks r and q: the number of the lower rank is smaller by 1 at least, and in one block both are equal
 abbrev pub pair_edges : ℕ → ℕ → ℕ → ℕ → List Edge

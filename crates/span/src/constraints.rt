@@ -1,14 +1,12 @@
 // The constraints of an engine as edges.
-ghost use Rattle.std.specs.List.{zip};
-ghost use Rattle.std.specs.Prelude.{◌≡◌, ◌≤◌, ◌++◌, map, length};
-ghost use Rattle.engine.specs.Limits.{max_seats};
+ghost use Rattle.std.specs.Prelude.{◌≡◌, ◌++◌, map};
 ghost use Rattle.engine.specs.States.{active_rows};
-ghost use Rattle.span.specs.Constraints.{edge, edges_with, order_edges, pair_edges, placed_at, row_edges};
+ghost use Rattle.span.specs.Constraints.{edge, edges_with, order_edges, pair_edges, row_edges};
 ghost use Rattle.span.specs.Lists.{FitInList};
 
 use arrayvec::ArrayVec;
-use engine::limits::MAX_SEATS;
 use engine::noted::Noted;
+use engine::placed::Placed;
 use graph::Edge;
 use sheet::row::Row;
 
@@ -18,36 +16,15 @@ pub(crate) type EdgeList = ArrayVec<Edge, 128>;
 // Numbers are whole, so the number of a lower rank is smaller by 1 at least.
 const GAP: i32 = -1;
 
-// A seat that is placed, by its term and its rank.
-#[derive(Clone, Copy, Debug, PartialEq, Eq, Default)]
-pub(crate) struct Placed {
-    term: u8,
-    rank: u8,
-}
-
-impl Placed {
-    // The edge that says that this seat's number is at most the other's plus the weight.
-    fn edge_from(self, other: Placed, weight: i32) -> Edge
-        ensures { result ≡ edge self.term other.term weight }
-    {
-        Edge {
-            to: self.term,
-            from: other.term,
-            weight,
-        }
-    }
-}
-
-// Each seat that has a rank, with it. The seats past the last rank are not placed.
-pub(crate) fn place_seats(seats: &[u8], ranks: &[u8]) -> ArrayVec<Placed, MAX_SEATS>
-    requires { length seats.now ≤ max_seats }
-    ensures { result.items ≡ map placed_at (zip seats.now ranks.now) }
+// The edge that says that the number of seat a is at most that of seat b plus the weight.
+fn edge_between(a: Placed, b: Placed, weight: i32) -> Edge
+    ensures { result ≡ edge a.term b.term weight }
 {
-    let mut placed = ArrayVec::new();
-    for (&term, &rank) in seats.iter().zip(ranks) {
-        placed.push(Placed { term, rank });
+    Edge {
+        to: a.term,
+        from: b.term,
+        weight,
     }
-    placed
 }
 
 // An edge for each active span row.
@@ -76,12 +53,12 @@ fn list_pair(a: Placed, b: Placed, list: &mut EdgeList)
     ensures { list.new.items ≡ list.old.items ++ pair_edges a.term a.rank b.term b.rank }
 {
     if a.rank < b.rank {
-        list.push(a.edge_from(b, GAP));
+        list.push(edge_between(a, b, GAP));
     } else if b.rank < a.rank {
-        list.push(b.edge_from(a, GAP));
+        list.push(edge_between(b, a, GAP));
     } else {
-        list.push(a.edge_from(b, 0));
-        list.push(b.edge_from(a, 0));
+        list.push(edge_between(a, b, 0));
+        list.push(edge_between(b, a, 0));
     }
 }
 

@@ -6,9 +6,8 @@ ghost use Rattle.engine.specs.Terms.{seats_of};
 ghost use Rattle.span.specs.Decisions.{DecisionOf, constraints_of, distances_of, becomes_stable_of};
 ghost use Rattle.span.specs.SpanState.{state_in};
 
-use crate::constraints::{EdgeList, list_order, list_rows, place_seats};
+use crate::constraints::{EdgeList, list_order, list_rows};
 use crate::relaxing::relax_rounds;
-use engine::arrangement::rank_seats;
 use engine::holdings::Holdings;
 use engine::limits::MAX_TERMS;
 use std::alloc::{AllocError, Global};
@@ -55,12 +54,11 @@ impl Span {
     }
 
     // The constraints of the active span rows and of the codes placed.
-    #[tactic(auto, using(crate::proofs::Parts::few_rows, crate::proofs::Parts::placed_order, crate::proofs::Parts::placed_ranks))]
+    #[tactic(auto, using(crate::proofs::Parts::few_rows, crate::proofs::Parts::placed_order))]
     fn list_constraints(&self) -> EdgeList
         ensures { result.items ≡ constraints_of (state_in self.now) }
     {
-        let ranks = rank_seats(self.held.codes());
-        let placed = place_seats(self.held.seats(), ranks.as_slice());
+        let placed = self.held.placed_seats();
         let mut list = EdgeList::new();
         list_rows(self.held.rows(), &mut list);
         list_order(placed.as_slice(), &mut list);

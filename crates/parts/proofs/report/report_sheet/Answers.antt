@@ -4,6 +4,10 @@ use Rattle.parts.proofs.report.report_sheet.Goals as goal
 
 pub returns-clause-only : goal.returns-clause-only
 returns-clause-only g c =
-    let f = g.E.Engine in
-    let n = f.setting c.args.engine.now in
-    λ t d said. report_once (f.rule n) g.E.Dating.counts (g.E.Dating.picks n) f.LETTER c.args.sheet.now (g.met.E.Dating.once n) t (f.state c.diagnose-diagnosis.new.engine) d c.diagnose-diagnosis.result said c.diagnose-diagnosis.ensures.tells ∙ sym c.in_ok-text.ensures
+    let d = g.D.Engine in
+    let e = g.E.Engine in
+    let n = d.setting c.args.instants.now in
+    λ t u₀ u other said.
+    report_once (d.rule n) g.D.Dating.counts (g.D.Dating.picks n) d.LETTER c.args.sheet.now (g.met.D.Dating.once n) (e.rule (e.setting c.args.levels.now)) e.LETTER
+    t u₀ u (d.state c.diagnose-diagnosis.new.instants) (e.state c.args.levels.now) (e.state c.diagnose-diagnosis.new.levels)
+    other c.diagnose-diagnosis.result said c.diagnose-diagnosis.ensures.tells ∙ sym c.in_ok-text.ensures

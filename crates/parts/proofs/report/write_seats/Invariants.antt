@@ -4,4 +4,4 @@ use Rattle.parts.proofs.report.write_seats.Given as goal
 
 -- the lines of the seats passed are written
 abbrev pub invariant-loop-seat : goal.invariant-loop-seat
-invariant-loop-seat l = string_bytes l.text ≡ codes "met" ++ seat_lines (take l.seat-index l.seats)
+invariant-loop-seat l = string_bytes l.text ≡ codes "instants met" ++ seat_lines (take l.seat-index l.seats)

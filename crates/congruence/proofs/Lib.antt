@@ -1,0 +1,4 @@
+pub mod Interpreting
+pub mod Merging
+pub mod Closing
+pub mod Exact

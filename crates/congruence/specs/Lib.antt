@@ -1,0 +1,5 @@
+pub mod Congruence
+pub mod Entries
+pub mod Classes
+pub mod Closure
+pub mod Claims

@@ -1,0 +1,113 @@
+-- A choice equates the pairs exactly where it makes the same rows true and gives the seats of each block one number. So the classes are
+-- those of the terms that are always equal.
+use Rattle.std.proofs.Common.{◌≡◌, ℕ, ◌<◌, ◌≤◌, List, length, get_or, take, All, sym, ap, ◌∙◌, subst, inl, inr, arith}
+use Rattle.std.proofs.lemmas.List.Elements.{All-append}
+use Rattle.std.proofs.lemmas.List.{get_or-take, length-take}
+use Rattle.std.proofs.lemmas.Bool.{cases_order}
+use Rattle.congruence.specs.Claims.{Equal, EqualBy, ExactClasses}
+use Rattle.congruence.specs.Classes.{class_of}
+use Rattle.congruence.proofs.Exact.{closure_is_exact}
+use Rattle.engine.specs.declared.holdings.Holdings.{Holdings}
+use Rattle.engine.specs.declared.placed.Placed.{Placed}
+use Rattle.engine.specs.Arrangements.{ranks}
+use Rattle.engine.specs.Holding.{state_of}
+use Rattle.engine.specs.Meaning.{Numbers, Tables, Interprets}
+use Rattle.engine.specs.Placing.{placed_at, placed_seats}
+use Rattle.engine.specs.Rules.{seat_numbers}
+use Rattle.engine.specs.States.{State, active_rows}
+use Rattle.engine.specs.Terms.{seats_of}
+use Rattle.engine.proofs.Bounds.{bounds}
+use Rattle.engine.proofs.Lists.{all_front, all_back}
+use Rattle.engine.proofs.Placing.{placed_by_place, placed_length}
+use Rattle.engine.proofs.Ranks.{length_ranks}
+use Rattle.table.specs.Decisions.{classes_of, equal_pairs}
+use Rattle.table.specs.Equalities.{AlwaysEqual, EqualityClasses, Equates}
+use Rattle.table.specs.Pairs.{block_pairs, same_pairs}
+use Rattle.table.proofs.Below.{arguments_below_all, pairs_below}
+use Rattle.table.proofs.Pairs.{blocks_give_pairs, no_seat, pairs_give_blocks, pairs_give_rows, rows_give_pairs, seat}
+
+module _ (h : Holdings) where
+  abbrev s : State
+  s = state_of h
+
+  abbrev rs : List ℕ
+  rs = ranks (state_of h).codes
+
+  abbrev ps : List Placed
+  ps = placed_seats (state_of h)
+
+  -- as many ranks as placed seats, and no more than seats
+  pub ranks_seated : length (ranks (state_of h).codes) ≤ length (seats_of (state_of h).terms)
+  ranks_seated = omega (arith, length_ranks (state_of h).codes, (bounds h).placed)
+
+  pub as_many : length (placed_seats (state_of h)) ≡ length (ranks (state_of h).codes)
+  as_many = placed_length (seats_of (state_of h).terms) (ranks (state_of h).codes) ranks_seated
+
+  pub seat_is : (p : ℕ) → p < length (ranks (state_of h).codes) → seat (placed_seats (state_of h)) p ≡ placed_at (get_or (seats_of (state_of h).terms) p 0, get_or (ranks (state_of h).codes) p 0)
+  seat_is p l = placed_by_place (seats_of (state_of h).terms) (ranks (state_of h).codes) no_seat p (let m = ranks_seated in omega arith) l
+
+  module _ (m : Tables) (v : Numbers) where
+    pub equates_pairs : Equates (state_of h).terms (active_rows (state_of h).rows) (state_of h).codes m v → All (Equal v) (equal_pairs (state_of h))
+    equates_pairs e =
+        All-append (Equal v) (same_pairs (active_rows (state_of h).rows)) (block_pairs ps) (rows_give_pairs v (active_rows (state_of h).rows) e.hold)
+        (blocks_give_pairs (Equal v) ps (λ j k b l t.
+        let lk : k < length rs = omega (arith, as_many) in
+        let lj : j < length rs = omega arith in
+        let one : get_or rs j 0 ≡ get_or rs k 0 = sym (ap (λ (p : Placed). p.rank) (seat_is j lj)) ∙ sym t ∙ ap (λ (p : Placed). p.rank) (seat_is k lk) in
+        ap (λ (p : Placed). v p.term) (seat_is j lj) ∙ e.blocks j k lj lk one ∙ sym (ap (λ (p : Placed). v p.term) (seat_is k lk))))
+
+    -- a later seat of the same block
+    later_equal : All (Equal v) (equal_pairs (state_of h)) → (p q : ℕ) → p < q → q < length (ranks (state_of h).codes) → get_or (ranks (state_of h).codes) p 0 ≡ get_or (ranks (state_of h).codes) q 0
+        → seat_numbers (state_of h).terms v p ≡ seat_numbers (state_of h).terms v q
+    later_equal a p q b l t =
+        let lp : p < length rs = omega arith in
+        let same : (seat ps q).rank ≡ (seat ps p).rank = ap (λ (x : Placed). x.rank) (seat_is q l) ∙ sym t ∙ sym (ap (λ (x : Placed). x.rank) (seat_is p lp)) in
+        let pair = pairs_give_blocks (Equal v) ps p q (all_back (Equal v) (same_pairs (active_rows (state_of h).rows)) (block_pairs ps) a) b (omega (arith, as_many)) same in
+        sym (ap (λ (x : Placed). v x.term) (seat_is p lp)) ∙ pair ∙ ap (λ (x : Placed). v x.term) (seat_is q l)
+
+    pub pairs_equate : Interprets m (state_of h).terms v → All (Equal v) (equal_pairs (state_of h)) → Equates (state_of h).terms (active_rows (state_of h).rows) (state_of h).codes m v
+    pairs_equate i a =
+        record {
+          interprets = i;
+          hold = pairs_give_rows v (active_rows (state_of h).rows) (all_front (Equal v) (same_pairs (active_rows (state_of h).rows)) (block_pairs ps) a);
+          blocks = λ p q lp lq e.
+              elim (cases_order p q) [
+                | inl x ↦ ap (seat_numbers (state_of h).terms v) x
+                | inr y ↦ elim y [ inl x ↦ later_equal a p q x lq e | inr x ↦ sym (later_equal a q p x lp (sym e)) ]
+              ];
+        }
+
+  -- the pairs make equal just the terms that are always equal
+  pub by_pairs : (a b : ℕ) → AlwaysEqual (state_of h).terms (active_rows (state_of h).rows) (state_of h).codes a b → EqualBy (state_of h).terms (equal_pairs (state_of h)) a b
+  by_pairs a b e = λ m v i p. e m v (pairs_equate m v i p)
+
+  pub by_choices : (a b : ℕ) → EqualBy (state_of h).terms (equal_pairs (state_of h)) a b → AlwaysEqual (state_of h).terms (active_rows (state_of h).rows) (state_of h).codes a b
+  by_choices a b e = λ m v q. e m v q.interprets (equates_pairs m v q)
+
+  pub exact : ExactClasses 32 (state_of h).terms (equal_pairs (state_of h)) (classes_of (state_of h))
+  exact = closure_is_exact 32 (state_of h).terms (equal_pairs (state_of h)) (bounds h).terms (arguments_below_all h) (pairs_below h)
+
+  -- the classes of the terms that there are
+  pub classes_are : (classes : List ℕ) → classes ≡ take (length (state_of h).terms) (classes_of (state_of h)) → EqualityClasses (state_of h) classes
+  classes_are classes is =
+      let n = length (state_of h).terms in
+      let cl = classes_of (state_of h) in
+      let few = (bounds h).terms in
+      let at : (t : ℕ) → t < n → get_or classes t 0 ≡ class_of cl t = λ t l. ap (λ (xs : List ℕ). get_or xs t 0) is ∙ get_or-take n cl t 0 l in
+      record {
+        each = ap length is ∙ length-take n cl ∙ omega (arith, exact.each);
+        named = λ t l.
+            let lt : t < 32 = omega arith in
+            let c = class_of cl t in
+            let lc : c < 32 = omega (arith, (exact.least t lt).0) in
+            record {
+              equal = subst (λ k. AlwaysEqual (state_of h).terms (active_rows (state_of h).rows) (state_of h).codes k t) (sym (at t l)) (by_choices c t (exact.equal c t lc lt (exact.least t lt).1));
+              least = λ b lb e.
+                  let same = exact.whole b t (omega arith) lt (by_pairs b t e) in
+                  omega (arith, at t l, same, (exact.least b (omega arith)).0);
+            };
+        exact = λ a b la lb. (
+          (λ e. by_choices a b (exact.equal a b (omega arith) (omega arith) (sym (at a la) ∙ e ∙ at b lb))),
+          (λ e. at a la ∙ exact.whole a b (omega arith) (omega arith) (by_pairs a b e) ∙ sym (at b lb)),
+        );
+      }

@@ -1,0 +1,5 @@
+pub mod Merging
+pub mod Below
+pub mod Pairs
+pub mod Equating
+pub mod Opening

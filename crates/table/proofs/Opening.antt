@@ -1,0 +1,188 @@
+-- The classes decide whether an allowed arrangement begins with the codes placed.
+use Rattle.std.proofs.Common.{◌≡◌, ℕ, ◌<◌, ◌↔◌, Bool, true, false, eqb, IsTrue, List, [], ◌∷◌, length, get_or, All, sym, refl, ap, ◌∙◌, inl, inr, arith}
+use Rattle.std.proofs.lemmas.List.Elements.{All-nil, All-cons, All-head, All-tail, All-weaker}
+use Rattle.std.proofs.lemmas.Int.{ints}
+use Rattle.std.proofs.lemmas.Bool.Decides.{nat_tests}
+use Rattle.std.proofs.lemmas.Bool.{and_from, and_parts, both_ways, cases_Bool, cases_eq, cases_order, eq-eqb, eqb-true}
+use Rattle.sheet.specs.declared.row.Row.{Row}
+use Rattle.sheet.specs.declared.row.Row.TheVariants.{Span, Same, Unlike}
+use Rattle.congruence.specs.Classes.{class_numbers, class_of}
+use Rattle.congruence.specs.Closure.{in_one_class}
+use Rattle.congruence.specs.Entries.{entries_of, tables_of}
+use Rattle.congruence.proofs.Exact.{ClassModel, closure_model}
+use Rattle.engine.specs.declared.holdings.Holdings.{Holdings}
+use Rattle.engine.specs.declared.placed.Placed.{Placed}
+use Rattle.engine.specs.Arrangements.{EqualInBlocks, ranks}
+use Rattle.engine.specs.Holding.{state_of}
+use Rattle.engine.specs.Meaning.{Numbers}
+use Rattle.engine.specs.Placing.{placed_seats}
+use Rattle.engine.specs.Rows.{terms_below}
+use Rattle.engine.specs.Rules.{EqualityHolds, TableAllowed, seat_numbers}
+use Rattle.engine.specs.States.{Completion, State, active_rows}
+use Rattle.engine.specs.Terms.{seats_of}
+use Rattle.engine.proofs.Bounds.{bounds}
+use Rattle.engine.proofs.Completing.{blocks_extended}
+use Rattle.engine.proofs.Following.{blocks_front}
+use Rattle.table.specs.Apart.{blocks_apart, row_apart, rows_apart, two_apart}
+use Rattle.table.specs.Decisions.{classes_of, equal_pairs, is_consistent}
+use Rattle.table.specs.Equalities.{AlwaysEqual, Equates, KeptApart, RowKeptApart, SameHolds}
+use Rattle.table.proofs.Below.{active_below, rows_below, seats_below}
+use Rattle.table.proofs.Equating.{as_many, by_choices, exact, pairs_equate, seat_is}
+use Rattle.table.proofs.Pairs.{all_blocks_apart, blocks_apart_at, no_seat, seat}
+
+apart_differ : (cl : List ℕ) (i j : ℕ) → in_one_class cl i j ≡ false → class_numbers cl i ≡ class_numbers cl j → ⊥
+apart_differ cl i j e n = let same : class_of cl i ≡ class_of cl j = omega (arith, ints) in both_ways (in_one_class cl i j) e (eq-eqb (class_of cl i) (class_of cl j) same)
+
+-- rows whose terms are apart hold of numbers that are equal just within a class
+hold_apart : (cl : List ℕ) (rows : List Row) → All (SameHolds (class_numbers cl)) rows → rows_apart cl rows ≡ true → All (EqualityHolds (class_numbers cl)) rows
+hold_apart cl [] a e = All-nil _
+hold_apart cl (r ∷ rows) a e =
+    let v = class_numbers cl in
+    let p = and_parts (row_apart cl r) (rows_apart cl rows) e in
+    All-cons (EqualityHolds v) r rows (one r (All-head (SameHolds v) r rows a) p.0) (hold_apart cl rows (All-tail (SameHolds v) r rows a) p.1)
+  where
+    one : (r : Row) → SameHolds (class_numbers cl) r → row_apart cl r ≡ true → EqualityHolds (class_numbers cl) r
+    one (Span i j c) h t = tt
+    one (Same i j) h t = h
+    one (Unlike i j) h t = apart_differ cl i j (elim (cases_Bool (in_one_class cl i j)) [ inl y ↦ grind arith | inr n ↦ n ])
+
+-- and where no two terms of an unlike row are equal, they are of different classes if classes have equal terms
+kept_rows : (cl : List ℕ) (equal : ℕ → ℕ → Type 0) (n : ℕ) (rows : List Row) → ((i j : ℕ) → i < n → j < n → class_of cl i ≡ class_of cl j → equal i j)
+    → All (λ r. terms_below n r ≡ true) rows → All (RowKeptApart equal) rows → rows_apart cl rows ≡ true
+kept_rows cl equal n [] f b a = refl
+kept_rows cl equal n (r ∷ rows) f b a =
+    and_from (row_apart cl r) (rows_apart cl rows) (one r (All-head (λ r. terms_below n r ≡ true) r rows b) (All-head (RowKeptApart equal) r rows a))
+    (kept_rows cl equal n rows f (All-tail (λ r. terms_below n r ≡ true) r rows b) (All-tail (RowKeptApart equal) r rows a))
+  where
+    one : (r : Row) → terms_below n r ≡ true → RowKeptApart equal r → row_apart cl r ≡ true
+    one (Span i j c) b k = refl
+    one (Same i j) b k = refl
+    one (Unlike i j) b k =
+        elim (cases_Bool (in_one_class cl i j)) [
+          | inl y ↦ absurd (k (f i j (grind (arith, nat_tests)) (grind (arith, nat_tests)) (eqb-true (class_of cl i) (class_of cl j) y)))
+          | inr m ↦ grind arith
+        ]
+
+-- what holds of the same and unlike rows
+same_holds : (v : Numbers) (r : Row) → EqualityHolds v r → SameHolds v r
+same_holds v (Span i j c) h = tt
+same_holds v (Same i j) h = h
+same_holds v (Unlike i j) h = tt
+
+unlike_kept : (v : Numbers) (equal : ℕ → ℕ → Type 0) (r : Row) → ((i j : ℕ) → equal i j → v i ≡ v j) → EqualityHolds v r → RowKeptApart equal r
+unlike_kept v equal (Span i j c) f h = tt
+unlike_kept v equal (Same i j) f h = tt
+unlike_kept v equal (Unlike i j) f h = λ e. h (f i j e)
+
+module _ (h : Holdings) where
+  abbrev s : State
+  s = state_of h
+
+  abbrev cl : List ℕ
+  cl = classes_of (state_of h)
+
+  abbrev rs : List ℕ
+  rs = ranks (state_of h).codes
+
+  abbrev ps : List Placed
+  ps = placed_seats (state_of h)
+
+  -- placed seats of one class are of one block
+  one_block : blocks_apart (classes_of (state_of h)) (placed_seats (state_of h)) ≡ true → (p q : ℕ) → p < q → q < length (ranks (state_of h).codes)
+      → seat_numbers (state_of h).terms (class_numbers (classes_of (state_of h))) p ≡ seat_numbers (state_of h).terms (class_numbers (classes_of (state_of h))) q
+      → get_or (ranks (state_of h).codes) p 0 ≡ get_or (ranks (state_of h).codes) q 0
+  one_block apart p q b l e =
+      let test : two_apart cl (seat ps p) (seat ps q) ≡ true = blocks_apart_at cl ps p q apart b (omega (arith, as_many h)) in
+      let lp : p < length rs = omega arith in
+      let here = seat_is h p lp in
+      let there = seat_is h q l in
+      let one : class_of cl (seat ps p).term ≡ class_of cl (seat ps q).term = ap (λ (x : Placed). class_of cl x.term) here ∙ omega (arith, ints) ∙ sym (ap (λ (x : Placed). class_of cl x.term) there) in
+      let equal : (seat ps q).rank ≡ (seat ps p).rank = grind (arith, nat_tests) in
+      sym (ap (λ (x : Placed). x.rank) here) ∙ sym equal ∙ ap (λ (x : Placed). x.rank) there
+
+  -- the class numbers are a choice, and go on to an arrangement
+  opened : is_consistent (state_of h) ≡ true → Completion TableAllowed (state_of h)
+  opened c =
+      let rows = active_rows s.rows in
+      let v = class_numbers cl in
+      let test = and_parts (rows_apart cl rows) (blocks_apart cl ps) c in
+      let model : ClassModel s.terms (equal_pairs s) cl = closure_model 32 s.terms (equal_pairs s) in
+      let m = tables_of (entries_of s.terms v) in
+      let e : Equates s.terms rows s.codes m v = pairs_equate h m v model.interprets model.equal in
+      let blocks : EqualInBlocks rs (seat_numbers s.terms v) = record {
+        same = e.blocks;
+        apart = λ p q lp lq t.
+            elim (cases_order p q) [
+              | inl x ↦ ap (λ k. get_or rs k 0) x
+              | inr y ↦ elim y [ inl x ↦ one_block test.1 p q x lq t | inr x ↦ sym (one_block test.1 q p x lp (sym t)) ]
+            ];
+      } in
+      let more = blocks_extended (length (seats_of s.terms)) s.codes (seat_numbers s.terms v) (bounds h).placed h.codes_valid blocks in
+      record {
+        rest = more.0;
+        full = more.1;
+        allowed = record { tables = m; numbers = v; interprets = model.interprets; hold = hold_apart cl rows e.hold test.0; blocks = more.2 };
+      }
+
+  -- a choice that fits an arrangement fits the codes that begin it
+  begun : Completion TableAllowed (state_of h) → TableAllowed (state_of h).terms (active_rows (state_of h).rows) (state_of h).codes
+  begun k =
+      let a = k.allowed in
+      record { tables = a.tables; numbers = a.numbers; interprets = a.interprets; hold = a.hold; blocks = blocks_front s.codes k.rest (seat_numbers s.terms a.numbers) a.blocks }
+
+  -- it tells apart what is to be apart
+  kept_apart : TableAllowed (state_of h).terms (active_rows (state_of h).rows) (state_of h).codes → KeptApart (state_of h)
+  kept_apart a =
+      let rows = active_rows s.rows in
+      let v = a.numbers in
+      let e : Equates s.terms rows s.codes a.tables v = record { interprets = a.interprets; hold = All-weaker (EqualityHolds v) (SameHolds v) (same_holds v) rows a.hold; blocks = a.blocks.same } in
+      let equal : (i j : ℕ) → AlwaysEqual s.terms rows s.codes i j → v i ≡ v j = λ i j always. always a.tables v e in
+      record {
+        rows = All-weaker (EqualityHolds v) (RowKeptApart (AlwaysEqual s.terms rows s.codes)) (λ r. unlike_kept v (AlwaysEqual s.terms rows s.codes) r equal) rows a.hold;
+        blocks = λ p q lp lq d always. d (a.blocks.apart p q lp lq (equal (get_or (seats_of s.terms) p 0) (get_or (seats_of s.terms) q 0) always));
+      }
+
+  -- and what is apart is of different classes
+  one_class_equal : (i j : ℕ) → i < 32 → j < 32 → class_of (classes_of (state_of h)) i ≡ class_of (classes_of (state_of h)) j → AlwaysEqual (state_of h).terms (active_rows (state_of h).rows) (state_of h).codes i j
+  one_class_equal i j li lj c = by_choices h i j ((exact h).equal i j li lj c)
+
+  two_blocks : KeptApart (state_of h) → (j k : ℕ) → j < k → k < length (placed_seats (state_of h)) → two_apart (classes_of (state_of h)) (seat (placed_seats (state_of h)) j) (seat (placed_seats (state_of h)) k) ≡ true
+  two_blocks kept j k b l =
+      let p = seat ps j in
+      let q = seat ps k in
+      let lk : k < length rs = omega (arith, as_many h) in
+      let lj : j < length rs = omega arith in
+      let here = seat_is h j lj in
+      let there = seat_is h k lk in
+      elim (cases_eq q.rank p.rank) [
+        | inl e ↦ let same : eqb q.rank p.rank ≡ true = eq-eqb q.rank p.rank e in grind arith
+        | inr d ↦ elim (cases_Bool (in_one_class cl p.term q.term)) [
+          | inr n ↦ grind arith
+          | inl y ↦
+              let one = one_class_equal p.term q.term (seats_below h j no_seat (omega arith)) (seats_below h k no_seat l) (eqb-true (class_of cl p.term) (class_of cl q.term) y) in
+              let always : AlwaysEqual s.terms (active_rows s.rows) s.codes (get_or (seats_of s.terms) j 0) (get_or (seats_of s.terms) k 0) =
+              λ m v e. sym (ap (λ (x : Placed). v x.term) here) ∙ one m v e ∙ ap (λ (x : Placed). v x.term) there in
+              absurd (kept.blocks j k lj lk (λ e. d (ap (λ (x : Placed). x.rank) there ∙ sym e ∙ sym (ap (λ (x : Placed). x.rank) here))) always)
+        ]
+      ]
+
+  apart_consistent : KeptApart (state_of h) → is_consistent (state_of h) ≡ true
+  apart_consistent kept =
+      let rows = active_rows s.rows in
+      and_from (rows_apart cl rows) (blocks_apart cl ps)
+      (kept_rows cl (AlwaysEqual s.terms rows s.codes) 32 rows one_class_equal (active_below 32 s.rows (rows_below h)) kept.rows)
+      (all_blocks_apart cl ps (two_blocks kept))
+
+  -- what the code decides, in three ways
+  pub record Decided (r : Bool) : Type 0 where
+    pub exact : IsTrue r ↔ Completion TableAllowed (state_of h)
+    pub fits : IsTrue r ↔ TableAllowed (state_of h).terms (active_rows (state_of h).rows) (state_of h).codes
+    pub apart : IsTrue r ↔ KeptApart (state_of h)
+
+  pub decided : (r : Bool) → r ≡ is_consistent (state_of h) → Decided r
+  decided r e =
+      record {
+        exact = ((λ t. opened (sym e ∙ t)), (λ k. e ∙ apart_consistent (kept_apart (begun k))));
+        fits = ((λ t. begun (opened (sym e ∙ t))), (λ a. e ∙ apart_consistent (kept_apart a)));
+        apart = ((λ t. kept_apart (begun (opened (sym e ∙ t)))), (λ k. e ∙ apart_consistent k));
+      }
