@@ -6,7 +6,7 @@ use Rattle.std.proofs.lemmas.List.{get_or_past, length-map}
 use Rattle.std.proofs.lemmas.List.Elements.{All-nil, All-cons, All-head, All-tail}
 use Rattle.std.proofs.lemmas.List.FromFn.{get_or-range_with_len, length-range_with_len}
 use Rattle.engine.specs.Meaning.{Numbers}
-use Rattle.congruence.specs.Classes.{class_of, singletons, replaced, absorb, merge, merge_all, class_numbers}
+use Rattle.congruence.specs.Classes.{class_of, singletons, replaced, rename_class, merge, merge_all, class_numbers}
 use Rattle.congruence.specs.Claims.{Equal, PairsBelow}
 
 -- what class c becomes where the classes x and y become one
@@ -30,14 +30,14 @@ merged_one P x y c p q r =
 merged_number : (v : Numbers) (x y c : ℕ) → v x ≡ v y → v (merged_to x y c) ≡ v c
 merged_number v x y c e = grind (arith, nat_tests)
 
-absorb_at : (high low : ℕ) (cl : List ℕ) (t : ℕ) → low ≤ high → class_of (absorb high low cl) t ≡ replaced high low (class_of cl t)
-absorb_at high low [] t l = grind (arith, nat_tests)
-absorb_at high low (c ∷ cl) zero l = refl
-absorb_at high low (c ∷ cl) (suc t) l = absorb_at high low cl t l
+rename_at : (high low : ℕ) (cl : List ℕ) (t : ℕ) → low ≤ high → class_of (rename_class high low cl) t ≡ replaced high low (class_of cl t)
+rename_at high low [] t l = grind (arith, nat_tests)
+rename_at high low (c ∷ cl) zero l = refl
+rename_at high low (c ∷ cl) (suc t) l = rename_at high low cl t l
 
 module _ (a b : ℕ) (cl : List ℕ) where
   pub merge_at : (t : ℕ) → class_of (merge a b cl) t ≡ merged_to (class_of cl a) (class_of cl b) (class_of cl t)
-  merge_at t = absorb_at _ _ cl t (omega arith)
+  merge_at t = rename_at _ _ cl t (omega arith)
 
   pub merge_length : length (merge a b cl) ≡ length cl
   merge_length = length-map cl _
@@ -53,16 +53,16 @@ module _ (a b : ℕ) (cl : List ℕ) where
       joined : (x y : ℕ) → merged_to x y x ≡ merged_to x y y
       joined x y = grind (arith, nat_tests)
 
--- a class that absorbs itself stays as it is
-absorb_self : (c : ℕ) (cl : List ℕ) → absorb c c cl ≡ cl
-absorb_self c [] = refl
-absorb_self c (d ∷ cl) = let e : replaced c c d ≡ d = grind (arith, nat_tests) in let r = absorb_self c cl in cc
+-- a class renamed to itself stays as it is
+rename_self : (c : ℕ) (cl : List ℕ) → rename_class c c cl ≡ cl
+rename_self c [] = refl
+rename_self c (d ∷ cl) = let e : replaced c c d ≡ d = grind (arith, nat_tests) in let r = rename_self c cl in cc
 
 pub merge_same : (a b : ℕ) (cl : List ℕ) → class_of cl a ≡ class_of cl b → merge a b cl ≡ cl
 merge_same a b cl e =
     let h : max (class_of cl a) (class_of cl b) ≡ class_of cl a = omega arith in
     let l : min (class_of cl a) (class_of cl b) ≡ class_of cl a = omega arith in
-    (λ i. absorb (h i) (l i) cl) ∙ absorb_self (class_of cl a) cl
+    (λ i. rename_class (h i) (l i) cl) ∙ rename_self (class_of cl a) cl
 
 -- each class is named by a term of its own that no term of it comes before
 pub record NamedByLeast (cl : List ℕ) : Type 0 where

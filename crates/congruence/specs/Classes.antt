@@ -13,13 +13,13 @@ singletons n = range_with_len 0 n
 abbrev pub replaced : ℕ → ℕ → ℕ → ℕ
 replaced old new c = if c == old then new else c
 
--- the class whose least term is `high` becomes a part of the one whose least term is `low`
-abbrev pub absorb : ℕ → ℕ → List ℕ → List ℕ
-absorb high low cl = map (replaced high low) cl
+-- the class whose least term is `high` becomes a part of the one whose least term is `low`, and goes by that
+abbrev pub rename_class : ℕ → ℕ → List ℕ → List ℕ
+rename_class high low cl = map (replaced high low) cl
 
 -- the classes of a and b become one
 abbrev pub merge : ℕ → ℕ → List ℕ → List ℕ
-merge a b cl = absorb (max (class_of cl a) (class_of cl b)) (min (class_of cl a) (class_of cl b)) cl
+merge a b cl = rename_class (max (class_of cl a) (class_of cl b)) (min (class_of cl a) (class_of cl b)) cl
 
 -- and so for each pair of terms
 abbrev pub merge_all : List (ℕ × ℕ) → List ℕ → List ℕ

@@ -1,5 +1,5 @@
 -- The classes decide whether an allowed arrangement begins with the codes placed.
-use Rattle.std.proofs.Common.{◌≡◌, ℕ, ◌<◌, ◌↔◌, Bool, true, false, eqb, IsTrue, List, [], ◌∷◌, length, get_or, All, sym, refl, ap, ◌∙◌, inl, inr, arith}
+use Rattle.std.proofs.Common.{◌≡◌, ℕ, ◌<◌, ◌↔◌, Bool, true, false, eqb, IsTrue, ◌&&◌, List, [], ◌∷◌, length, get_or, All, sym, refl, ap, ◌∙◌, inl, inr, arith}
 use Rattle.std.proofs.lemmas.List.Elements.{All-nil, All-cons, All-head, All-tail, All-weaker}
 use Rattle.std.proofs.lemmas.Int.{ints}
 use Rattle.std.proofs.lemmas.Bool.Decides.{nat_tests}
@@ -24,11 +24,15 @@ use Rattle.engine.proofs.Bounds.{bounds}
 use Rattle.engine.proofs.Completing.{blocks_extended}
 use Rattle.engine.proofs.Following.{blocks_front}
 use Rattle.table.specs.Apart.{blocks_apart, row_apart, rows_apart, two_apart}
-use Rattle.table.specs.Decisions.{classes_of, equal_pairs, is_consistent}
+use Rattle.table.specs.Decisions.{classes_of, equal_pairs}
 use Rattle.table.specs.Equalities.{AlwaysEqual, Equates, KeptApart, RowKeptApart, SameHolds}
 use Rattle.table.proofs.Below.{active_below, rows_below, seats_below}
 use Rattle.table.proofs.Equating.{as_many, by_choices, exact, pairs_equate, seat_is}
 use Rattle.table.proofs.Pairs.{all_blocks_apart, blocks_apart_at, no_seat, seat}
+
+-- the test that the code makes
+abbrev is_consistent : State → Bool
+is_consistent s = rows_apart (classes_of s) (active_rows s.rows) && blocks_apart (classes_of s) (placed_seats s)
 
 apart_differ : (cl : List ℕ) (i j : ℕ) → in_one_class cl i j ≡ false → class_numbers cl i ≡ class_numbers cl j → ⊥
 apart_differ cl i j e n = let same : class_of cl i ≡ class_of cl j = omega (arith, ints) in both_ways (in_one_class cl i j) e (eq-eqb (class_of cl i) (class_of cl j) same)

@@ -1,6 +1,6 @@
 // Classes of terms.
 ghost use Rattle.std.specs.Prelude.{◌≡◌, ◌<◌};
-ghost use Rattle.congruence.specs.Classes.{absorb, merge, singletons};
+ghost use Rattle.congruence.specs.Classes.{rename_class, merge, singletons};
 ghost use Rattle.congruence.specs.Closure.{in_one_class};
 ghost use Rattle.engine.specs.Limits.{max_terms};
 
@@ -41,14 +41,14 @@ impl Classes {
         let first = self.least[a as usize];
         let second = self.least[b as usize];
         if first != second {
-            absorb(&mut self.least, first.max(second), first.min(second));
+            rename_class(&mut self.least, first.max(second), first.min(second));
         }
     }
 }
 
 // Makes the class whose least term is `high` a part of the one whose least term is `low`.
-fn absorb(least: &mut [u8; MAX_TERMS], high: u8, low: u8)
-    ensures { least.new ≡ absorb high low least.old }
+fn rename_class(least: &mut [u8; MAX_TERMS], high: u8, low: u8)
+    ensures { least.new ≡ rename_class high low least.old }
 {
     for class in least.iter_mut() {
         if *class == high {

@@ -34,7 +34,7 @@ impl Table {
 
     // Whether some allowed arrangement begins with the codes placed. That is so exactly when some numbers and tables fit the active same
     // and unlike rows and the blocks placed; and exactly when the two terms of each active unlike row, and each two placed seats of
-    // different blocks, are not equal in every choice that the same rows and the blocks leave.
+    // different blocks, differ in some choice that makes the same rows true and gives the seats of each block one number.
     pub fn is_consistent(&self) -> bool
         ensures exact { IsTrue result ↔ Completion TableAllowed (state_in self.now) }
         ensures fits { let s = state_in self.now in
@@ -42,7 +42,7 @@ impl Table {
         ensures apart { IsTrue result ↔ KeptApart (state_in self.now) }
     {
         let placed = self.held.placed_seats();
-        let classes = self.close(placed.as_slice());
+        let classes = self.closed_classes(placed.as_slice());
         rows_apart(self.held.rows(), &classes) && blocks_apart(placed.as_slice(), &classes)
     }
 
@@ -52,13 +52,13 @@ impl Table {
         ensures { EqualityClasses (state_in self.now) result.items }
     {
         let placed = self.held.placed_seats();
-        let mut classes = ArrayVec::from_array_in((), self.close(placed.as_slice()).least);
+        let mut classes = ArrayVec::from_array_in((), self.closed_classes(placed.as_slice()).least);
         classes.truncate(self.held.terms().len());
         classes
     }
 
     // The classes of the active same rows and of the blocks of the placed seats, closed under congruence.
-    fn close(&self, placed: &[Placed]) -> Classes
+    fn closed_classes(&self, placed: &[Placed]) -> Classes
         requires { placed.now ≡ placed_seats (state_in self.now) }
         ensures { result.least ≡ classes_of (state_in self.now) }
     {
