@@ -115,4 +115,6 @@ closure_is_exact n ts pairs l arguments within =
       least = λ t lt. let named = closure_named n ts pairs in (named.least t, named.own t);
       equal = closure_sound n ts pairs l arguments within;
       whole = λ a b la lb e. let q = e (tables_of (entries_of ts (class_numbers cl))) (class_numbers cl) model.interprets model.equal in cc;
+      interprets = model.interprets;
+      chosen = model.equal;
     }

@@ -36,7 +36,7 @@ abbrev pub NeededBy : List Term → Numbers → Entry → Type 0
 NeededBy ts v (Unary a n r) = (i x : ℕ) × (form_at ts i ≡ One a x) × (v x ≡ n) × (v i ≡ r)
 NeededBy ts v (Binary a n m r) = (i x y : ℕ) × (form_at ts i ≡ Two a x y) × (v x ≡ n) × (v y ≡ m) × (v i ≡ r)
 
--- the entries are just those that the applications need, in any order, and each any number of times
+-- the entries are just those that the applications need, in any order, and each once at least
 pub record NeededEntries (ts : List Term) (v : Numbers) (es : List Entry) : Type 0 where
   pub unary : (i a x : ℕ) → form_at ts i ≡ One a x → Contains es (Unary a (v x) (v i))
   pub binary : (i a x y : ℕ) → form_at ts i ≡ Two a x y → Contains es (Binary a (v x) (v y) (v i))

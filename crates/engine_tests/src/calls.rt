@@ -478,16 +478,20 @@ fn each_engine_has_its_letter(rt: HostRuntime) {
 }
 
 // The sixty-fifth row is refused, before anything else is asked of it.
-#[test]
-fn sixty_four_rows(rt: HostRuntime) -> Result<(), Fail> {
+fn fill_with_rows<E: Engine>(rt: &impl Abort, engine: &mut E) {
     let row = Call::NoteRow(Row::Same { left: 0, right: 0 });
     let bad_row = Call::NoteRow(Row::Same { left: 0, right: 9 });
-    let mut span = Span::new(rt.alloc())?;
     for _ in 0..64u8 {
-        assert_eq!(rt; answer(&rt, row, &mut span), Ok(()));
+        assert_eq!(rt; answer(rt, row, engine), Ok(()));
     }
-    assert_eq!(rt; answer(&rt, bad_row, &mut span), Err(11));
-    assert_eq!(rt; answer(&rt, Call::Strike, &mut span), Ok(()));
-    assert_eq!(rt; answer(&rt, bad_row, &mut span), Err(12));
+    assert_eq!(rt; answer(rt, bad_row, engine), Err(11));
+    assert_eq!(rt; answer(rt, Call::Strike, engine), Ok(()));
+    assert_eq!(rt; answer(rt, bad_row, engine), Err(12));
+}
+
+#[test]
+fn sixty_four_rows(rt: HostRuntime) -> Result<(), Fail> {
+    fill_with_rows(&rt, &mut Span::new(rt.alloc())?);
+    fill_with_rows(&rt, &mut Table::new(rt.alloc())?);
     Ok(())
 }

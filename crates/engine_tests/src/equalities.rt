@@ -427,3 +427,21 @@ fn sheets_are_open_and_classed(rt: HostRuntime) -> Result<(), Fail> {
     }
     Ok(())
 }
+
+// A muted row does not count, an unmuted one does again; a struck one is gone.
+#[test]
+fn only_active_equalities_count(rt: HostRuntime) -> Result<(), Fail> {
+    let mut table = Table::new(rt.alloc())?;
+    assert_eq!(rt;
+        make(Call::NoteRow(Asked::Unlike(0, 0).row()), &mut table),
+        Ok(())
+    );
+    assert!(rt; !table.open());
+    assert_eq!(rt; make(Call::Mute(0), &mut table), Ok(()));
+    assert!(rt; table.open());
+    assert_eq!(rt; make(Call::Unmute(0), &mut table), Ok(()));
+    assert!(rt; !table.open());
+    assert_eq!(rt; make(Call::Strike, &mut table), Ok(()));
+    assert!(rt; table.open());
+    Ok(())
+}

@@ -56,7 +56,7 @@ one_end {letter} {q} {from = from} (on f read ok w) here stop halt = absurd (goe
 one_end {letter} {q} {s} {t} {from} {left} {right} (on f read ok v) (on h read' ok' w) stop halt =
     one_end v (subst (λ x. Onward letter (after_field q x) (remaining from) t right) (sym (same_field (parse from) f h read read')) w) stop halt
 
-noted_by_each : (a b : ℕ) {sheet left : List ℕ} {s : State} → FieldsNoted a sheet s left → FieldsNoted b sheet s left
+pub noted_by_each : (a b : ℕ) {sheet left : List ℕ} {s : State} → FieldsNoted a sheet s left → FieldsNoted b sheet s left
 noted_by_each a b none = none
 noted_by_each a b (more {s = s} {f = f} w read ok) = more (noted_by_each a b w) read (accepted_by_each a b s f ok)
 

@@ -5,3 +5,4 @@ mod Placing
 mod Reporting
 mod Trying
 mod Walking
+mod Telling

@@ -3,3 +3,4 @@ pub mod First
 pub mod Noting
 pub mod Diagnoses
 pub mod Lines
+pub mod Told

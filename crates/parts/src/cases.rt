@@ -1,15 +1,13 @@
 // Whole sheets with their reports.
-use crate::report::report_sheet;
-use span::span::Span;
+use crate::report::report_parts;
 use std::test::Fail;
-use table::table::Table;
 
 // What is said of a sheet whose one instant is zero, and is met.
 const LEVELS_MET: &str = "instants met\nseat 0 term 0 code 0 date 0\nlevels met";
 
 const LEVELS_UNMET: &str = "instants met\nseat 0 term 0 code 0 date 0\nlevels unmet";
 
-const CASES: [(&[u8], &str); 22] = [
+const CASES: [(&[u8], &str); 23] = [
     // zero alone
     (b"", LEVELS_MET),
     // two instants and no row
@@ -95,15 +93,18 @@ const CASES: [(&[u8], &str); 22] = [
         b"T\x00\x03DNxT\x00\x03DNaT\x00\x03DNbT\x00\x05L1A\x01uT\x00\x05L1A\x02vT\x00\x05L1A\x03wS\x00\x06\x02\x00\x00\x00\x00\x04S\x00\x06\x00\x02\xFF\xFF\xFF\xFCS\x00\x06\x03\x00\x00\x00\x00\x05S\x00\x06\x00\x03\xFF\xFF\xFF\xFBS\x00\x06\x01\x00\x00\x00\x00\x05S\x00\x06\x00\x01\xFF\xFF\xFF\xFCU\x00\x02\x04\x05U\x00\x02\x04\x06",
         "instants met\nseat 0 term 0 code 0 date 0\nseat 1 term 1 code 2 date 5\nseat 2 term 2 code 2 date 4\nseat 3 term 3 code 5 date 5\nlevels met",
     ),
+    // two instants at one tick, by their spans alone, and table A plays different levels at them
+    (
+        b"T\x00\x03DNxT\x00\x03DNyT\x00\x05L1A\x01aT\x00\x05L1A\x02bS\x00\x06\x01\x02\x00\x00\x00\x00S\x00\x06\x02\x01\x00\x00\x00\x00U\x00\x02\x03\x04",
+        "instants met\nseat 0 term 0 code 0 date 0\nseat 1 term 1 code 0 date -1\nseat 2 term 2 code 1 date -1\nlevels met",
+    ),
 ];
 
 #[test]
 fn sheets_have_their_reports(rt: HostRuntime) -> Result<(), Fail> {
-    let mut instants = Span::new(rt.alloc())?;
-    let mut levels = Table::new(rt.alloc())?;
-    for (sheet, want) in CASES {
-        let report = report_sheet(rt.alloc(), &mut instants, &mut levels, sheet)?;
-        assert!(rt; report.text.as_str() == want, "{}", want);
+    for (k, (sheet, want)) in CASES.iter().enumerate() {
+        let report = report_parts(rt.alloc(), sheet)?;
+        assert!(rt; report.text.as_str() == *want, "case {k}");
     }
     Ok(())
 }

@@ -11,12 +11,8 @@ mod place_first;
 mod report;
 mod seat;
 
-use crate::report::report_sheet;
-use engine::dating::Dating;
-use engine::engine::Engine;
+use crate::report::report_parts;
 use program::host::Program;
-use span::span::Span;
-use table::table::Table;
 
 const HELP: &str = "usage: parts < SHEET
 
@@ -50,21 +46,9 @@ fn run(rt: &HostRuntime) -> anyhow::Result<()> {
     let Some(sheet) = program.sheet()? else {
         return Ok(());
     };
-    let mut instants = Span::new(rt.alloc())?;
-    let mut levels = Table::new(rt.alloc())?;
-    print_report(&program, &mut instants, &mut levels, sheet.as_slice())
-}
-
-// Prints what the engines say of the sheet.
-fn print_report<D: Dating, E: Engine>(
-    program: &Program<'_>,
-    instants: &mut D,
-    levels: &mut E,
-    sheet: &[u8],
-) -> anyhow::Result<()> {
-    let report = report_sheet(program.rt.alloc(), instants, levels, sheet)?;
+    let report = report_parts(rt.alloc(), sheet.as_slice())?;
     let text = report.text.as_str();
-    println!(program.rt; "{text}")?;
+    println!(rt; "{text}")?;
     if let Err(refusal) = report.diagnosis {
         program.explain(refusal)?;
     }

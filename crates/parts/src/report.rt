@@ -2,6 +2,7 @@
 ghost use Rattle.std.specs.Prelude.{◌≡◌, ◌++◌, IfOk, codes, string_bytes};
 ghost use Rattle.parts.specs.Diagnoses.{Diagnosed};
 ghost use Rattle.parts.specs.Lines.{OnlyReport, findings_lines, instants_lines, report_of, seat_lines};
+ghost use Rattle.parts.specs.Told.{PartsDiagnosed, Told};
 
 use crate::diagnosis::{Diagnosis, Findings, diagnose};
 use crate::seat::Seat;
@@ -9,7 +10,9 @@ use arrayvec::ArrayVec;
 use engine::dating::Dating;
 use engine::engine::Engine;
 use engine::limits::MAX_SEATS;
+use span::span::Span;
 use std::alloc::{AllocError, Global};
+use table::table::Table;
 
 // A diagnosis, and its lines.
 #[derive(Drop)]
@@ -40,6 +43,17 @@ pub(crate) fn report_sheet<D: Dating, E: Engine>(
     let diagnosis = diagnose(instants, levels, sheet);
     let text = write_lines(heap, &diagnosis)?;
     Ok(Report { diagnosis, text })
+}
+
+// What the span engine says of the instants of a sheet, and the table engine of its levels.
+pub(crate) fn report_parts(heap: Global, sheet: &[u8]) -> Result<Report, AllocError>
+    ensures tells { IfOk result (λ report. Told sheet.now report.diagnosis) }
+    ensures engines { IfOk result (λ report. PartsDiagnosed sheet.now report.diagnosis) }
+    ensures lists { IfOk result (λ report. string_bytes report.text ≡ report_of report.diagnosis) }
+{
+    let mut instants = Span::new(heap)?;
+    let mut levels = Table::new(heap)?;
+    report_sheet(heap, &mut instants, &mut levels, sheet)
 }
 
 // The lines of a diagnosis.
