@@ -11,3 +11,4 @@ pub mod Seats
 pub mod Using
 pub mod Laws
 pub mod Placing
+pub mod EachPair

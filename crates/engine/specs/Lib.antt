@@ -11,4 +11,5 @@ pub mod Dates
 pub mod Fitting
 pub mod Holding
 pub mod Placing
+pub mod EachPair
 pub mod Letters

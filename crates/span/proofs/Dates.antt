@@ -11,10 +11,10 @@ use Rattle.graph.proofs.Deciding.{bounded_among, greatest}
 use Rattle.sheet.specs.declared.row.Row.{Row}
 use Rattle.sheet.specs.declared.row.Row.TheVariants.{Span, Same, Unlike}
 use Rattle.engine.specs.declared.holdings.Holdings.{Holdings}
-use Rattle.engine.specs.Arrangements.{ranks}
 use Rattle.engine.specs.Dates.{CountedHolds, GreatestDates, RightDates, date_at}
 use Rattle.engine.specs.Holding.{state_of}
 use Rattle.engine.specs.Meaning.{Numbers}
+use Rattle.engine.specs.Placing.{placed_seats}
 use Rattle.engine.specs.Rules.{SpanFits, SpanHolds, seat_numbers}
 use Rattle.engine.specs.States.{State, active_rows}
 use Rattle.engine.specs.Terms.{seats_of}
@@ -72,7 +72,7 @@ module _ (h : Holdings) (stable : becomes_stable_of (state_of h) ≡ true) where
   best = greatest 32 (length ss) es (within h) stable
 
   pub fitting : SpanFits s.terms (active_rows s.rows) s.codes (at d)
-  fitting = solutions_fit s.terms (active_rows s.rows) s.codes (at d) (bounds h).placed best.0.0
+  fitting = solutions_fit (at d) s.terms s.codes (bounds h).placed (active_rows s.rows) best.0.0
 
   pub all_in_limits : All (InLimits d) ss
   all_in_limits =
@@ -99,7 +99,7 @@ module _ (h : Holdings) (stable : becomes_stable_of (state_of h) ≡ true) where
       let fit = edges_fit h k e i in
       let a = same (get_or es k e).to fit.0 in
       let b = same (get_or es k e).from fit.1 in
-      let holds = fits_solve s.terms (active_rows s.rows) s.codes v f k e i in
+      let holds = fits_solve v s.terms s.codes (bounds h).placed (active_rows s.rows) f k e i in
       omega (arith, ints)) in
       let t = slice_index ss p in
       let m : cut_off v t ≤ℤ at d t = best.1 (cut_off v) (solves, λ t _. cut_low v t) t (low_at p l).0 in
@@ -161,5 +161,5 @@ module _ (h : Holdings) (stable : becomes_stable_of (state_of h) ≡ true) where
               let k = fitting.ordered.less p q i j e in
               omega (arith, ints);
         };
-        hold = rows_dated (active_rows s.rows) (all_front (EdgeFits ss) (row_edges (active_rows s.rows)) (order_edges ss (ranks s.codes)) (edges_fit h)) fitting.hold;
+        hold = rows_dated (active_rows s.rows) (all_front (EdgeFits ss) (row_edges (active_rows s.rows)) (order_edges (placed_seats s)) (edges_fit h)) fitting.hold;
       }

@@ -1,5 +1,5 @@
 -- The edges of the constraints join seats, and none weighs less than the least bound.
-use Rattle.std.specs.Prelude.{◌≡◌, ℕ, ◌<◌, Bool, true, false, cond, List, [], ◌∷◌, length, pos, negsuc, neg_ℤ, ◌≤ℤ◌, nat_lt, slice_index, All, Contains}
+use Rattle.std.specs.Prelude.{◌≡◌, ℕ, ◌<◌, Bool, true, false, cond, List, [], ◌∷◌, length, pos, negsuc, neg_ℤ, ◌≤ℤ◌, nat_lt, All, Contains}
 use Rattle.std.proofs.Common.{arith}
 use Rattle.std.proofs.lemmas.List.Elements.{All-nil, All-cons, All-append, All-weaker, All-contains, Contains-get_or}
 use Rattle.std.proofs.lemmas.Int.{ints}
@@ -12,16 +12,20 @@ use Rattle.sheet.specs.declared.row.Row.TheVariants.{Span, Same, Unlike}
 use Rattle.sheet.specs.declared.term.Term.{Term}
 use Rattle.engine.specs.declared.holdings.Holdings.{Holdings}
 use Rattle.engine.specs.declared.noted.Noted.{Noted}
-use Rattle.engine.specs.Arrangements.{ranks}
+use Rattle.engine.specs.declared.placed.Placed.{Placed}
+use Rattle.engine.specs.EachPair.{each_pair}
 use Rattle.engine.specs.Fitting.{all_rows_fit, row_fits}
 use Rattle.engine.specs.Holding.{state_of}
+use Rattle.engine.specs.Placing.{placed_seats}
 use Rattle.engine.specs.States.{active_rows}
 use Rattle.engine.specs.Terms.{is_dated_at, seats_of}
 use Rattle.engine.proofs.Bounds.{bounds}
+use Rattle.engine.proofs.Lists.{all_flat_map}
+use Rattle.engine.proofs.Placing.{all_placed_pairs, placed_seat}
+use Rattle.engine.proofs.Ranks.{length_ranks}
 use Rattle.engine.proofs.Seats.{seats_have, seats_within}
 use Rattle.span.specs.Constraints.{edge, order_edges, pair_edges, row_edges}
 use Rattle.span.specs.Decisions.{constraints_of}
-use Rattle.span.proofs.Pairs.{all_order}
 
 -- both ends are seats, and the weight is a bound
 abbrev pub EdgeFits : List ℕ → Edge → Type 0
@@ -45,22 +49,26 @@ rows_fit ts (m ∷ ms) f =
     let rest = rows_fit ts ms p.1 in
     cond_both m.active (m.row ∷ active_rows ms) (active_rows ms) (λ rows. All (EdgeFits (seats_of ts)) (row_edges rows)) (λ _. row_edges_fit ts m.row (active_rows ms) p.0 rest) (λ _. rest)
 
-pair_fits : (ss : List ℕ) (s r t q : ℕ) → Contains ss s → Contains ss t → All (EdgeFits ss) (pair_edges s r t q)
-pair_fits ss s r t q h k = go (nat_lt r q) (nat_lt q r)
+pair_fits : (ss : List ℕ) (p q : Placed) → Contains ss p.term → Contains ss q.term → All (EdgeFits ss) (pair_edges (p, q))
+pair_fits ss p q h k = go (nat_lt p.rank q.rank) (nat_lt q.rank p.rank)
   where
-    go : (a b : Bool) → All (EdgeFits ss) (cond a (edge s t (negsuc 0) ∷ []) (cond b (edge t s (negsuc 0) ∷ []) (edge s t (pos 0) ∷ edge t s (pos 0) ∷ [])))
-    go true b = All-cons (EdgeFits ss) (edge s t (negsuc 0)) [] (h, k, omega (arith, ints)) (All-nil _)
-    go false true = All-cons (EdgeFits ss) (edge t s (negsuc 0)) [] (k, h, omega (arith, ints)) (All-nil _)
-    go false false = All-cons (EdgeFits ss) (edge s t (pos 0)) (edge t s (pos 0) ∷ []) (h, k, omega (arith, ints)) (All-cons (EdgeFits ss) (edge t s (pos 0)) [] (k, h, omega (arith, ints)) (All-nil _))
+    go : (a b : Bool) → All (EdgeFits ss) (cond a (edge p.term q.term (negsuc 0) ∷ []) (cond b (edge q.term p.term (negsuc 0) ∷ []) (edge p.term q.term (pos 0) ∷ edge q.term p.term (pos 0) ∷ [])))
+    go true b = All-cons (EdgeFits ss) (edge p.term q.term (negsuc 0)) [] (h, k, omega (arith, ints)) (All-nil _)
+    go false true = All-cons (EdgeFits ss) (edge q.term p.term (negsuc 0)) [] (k, h, omega (arith, ints)) (All-nil _)
+    go false false = All-cons (EdgeFits ss) (edge p.term q.term (pos 0)) (edge q.term p.term (pos 0) ∷ []) (h, k, omega (arith, ints)) (All-cons (EdgeFits ss) (edge q.term p.term (pos 0)) [] (k, h, omega (arith, ints)) (All-nil _))
 
 -- of what an engine holds
 pub edges_fit : (h : Holdings) → All (EdgeFits (seats_of (state_of h).terms)) (constraints_of (state_of h))
 edges_fit h =
     let s = state_of h in
     let ss = seats_of s.terms in
-    let rs = ranks s.codes in
-    All-append (EdgeFits ss) (row_edges (active_rows s.rows)) (order_edges ss rs) (rows_fit s.terms s.rows h.rows_fit)
-    (all_order (EdgeFits ss) ss rs (λ p q b l m. pair_fits ss (slice_index ss p) (slice_index rs p) (slice_index ss q) (slice_index rs q) (Contains-get_or ss p 0 (omega arith)) (Contains-get_or ss q 0 l)))
+    let placed = (bounds h).placed in
+    let few = length_ranks s.codes in
+    let pairs = each_pair (placed_seats s) in
+    All-append (EdgeFits ss) (row_edges (active_rows s.rows)) (order_edges (placed_seats s)) (rows_fit s.terms s.rows h.rows_fit)
+    (all_flat_map (EdgeFits ss) pair_edges pairs
+    (all_placed_pairs s.terms s.codes placed (λ x. All (EdgeFits ss) (pair_edges x))
+    (λ p q b l. pair_fits ss (placed_seat s.terms s.codes p) (placed_seat s.terms s.codes q) (Contains-get_or ss p 0 (omega arith)) (Contains-get_or ss q 0 (omega arith)))))
 
 pub within : (h : Holdings) → Within 32 (constraints_of (state_of h))
 within h =

@@ -38,8 +38,8 @@ module _ (h : Holdings) where
       let d : Decided 32 (length ss) es = exact_among 32 (length ss) ss es (within h) (edges_among ss es (edges_fit h)) (omega arith) in
       record {
         rounds = refl;
-        solved = λ e. ((d.0 e).0, solutions_fit s.terms rows s.codes (d.0 e).0 (bounds h).placed (d.0 e).1);
-        unsolved = λ e v f. d.4 (d.1 e) (v, fits_solve s.terms rows s.codes v f);
+        solved = λ e. ((d.0 e).0, solutions_fit (d.0 e).0 s.terms s.codes (bounds h).placed rows (d.0 e).1);
+        unsolved = λ e v f. d.4 (d.1 e) (v, fits_solve v s.terms s.codes (bounds h).placed rows f);
         cycle = d.1;
         no_cycle = λ e c. d.4 c (d.0 e);
       }

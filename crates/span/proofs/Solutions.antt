@@ -1,5 +1,5 @@
 -- Numbers that fit the rows and the codes are the solutions of the constraints.
-use Rattle.std.specs.Prelude.{◌≡◌, ℕ, ◌≤◌, List, [], ◌∷◌, length, ◌+ℤ◌, ◌-ℤ◌, ◌≤ℤ◌, slice_index, slice_index_or, All}
+use Rattle.std.specs.Prelude.{ℕ, ◌<◌, ◌≤◌, List, [], ◌∷◌, length, ◌+ℤ◌, ◌-ℤ◌, ◌≤ℤ◌, slice_index, All}
 use Rattle.std.proofs.Common.{sym, ap, inl, inr, arith}
 use Rattle.std.proofs.lemmas.List.Elements.{All-nil, All-cons, All-head, All-tail, All-append}
 use Rattle.std.proofs.lemmas.Int.{ints}
@@ -8,14 +8,17 @@ use Rattle.graph.specs.Graph.{EdgeHolds, Solution}
 use Rattle.sheet.specs.declared.row.Row.{Row}
 use Rattle.sheet.specs.declared.row.Row.TheVariants.{Span, Same, Unlike}
 use Rattle.sheet.specs.declared.term.Term.{Term}
+use Rattle.engine.specs.declared.placed.Placed.{Placed}
+use Rattle.engine.specs.EachPair.{each_pair}
 use Rattle.engine.specs.Arrangements.{InOrder, ranks}
 use Rattle.engine.specs.Meaning.{Numbers}
-use Rattle.engine.specs.Rules.{SpanFits, SpanHolds}
+use Rattle.engine.specs.Placing.{placed_seats_of}
+use Rattle.engine.specs.Rules.{SpanFits, SpanHolds, seat_numbers}
 use Rattle.engine.specs.Terms.{seats_of}
-use Rattle.engine.proofs.Ranks.{length_ranks}
-use Rattle.span.specs.Constraints.{constraints, order_edges, row_edges}
-use Rattle.engine.proofs.Lists.{all_back, all_front}
-use Rattle.span.proofs.Pairs.{all_order, order_at, order_pair, pair_order}
+use Rattle.span.specs.Constraints.{constraints, order_edges, pair_edges, row_edges}
+use Rattle.engine.proofs.Lists.{all_back, all_flat_map, all_front, flat_map_all}
+use Rattle.engine.proofs.Placing.{all_placed_pairs, placed_pair_at, placed_seat}
+use Rattle.span.proofs.Pairs.{PairInOrder, order_pair, pair_order}
 
 rows_solved : (v : Numbers) (rows : List Row) → All (SpanHolds v) rows → All (EdgeHolds v) (row_edges rows)
 rows_solved v [] h = All-nil _
@@ -30,39 +33,42 @@ rows_hold v (Same i j ∷ rows) h = All-cons (SpanHolds v) _ _ tt (rows_hold v r
 rows_hold v (Unlike i j ∷ rows) h = All-cons (SpanHolds v) _ _ tt (rows_hold v rows h)
 
 -- the order of the ranks, as edges
-order_solved : (v : Numbers) (ss rs : List ℕ) → InOrder rs (λ p. v (slice_index ss p)) → All (EdgeHolds v) (order_edges ss rs)
-order_solved v ss rs o =
-    all_order (EdgeHolds v) ss rs (λ p q b l m. order_pair v (slice_index ss p) (slice_index rs p) (slice_index ss q) (slice_index rs q) (record {
-      same = λ e. o.same p q (omega arith) m e;
-      less = λ e. o.less p q (omega arith) m e;
-      more = λ e. o.less q p m (omega arith) e;
-    }))
+module _ (v : Numbers) (ts : List Term) (codes : List ℕ) (seated : length codes ≤ length (seats_of ts)) where
+  abbrev PairHolds : Placed × Placed → Type 0
+  PairHolds p = All (EdgeHolds v) (pair_edges p)
 
-solved_order : (v : Numbers) (ss rs : List ℕ) → length rs ≤ length ss → All (EdgeHolds v) (order_edges ss rs) → InOrder rs (λ p. v (slice_index ss p))
-solved_order v ss rs l a = record {
-  same = λ p q i j e.
-      elim (cases_order p q) [
-        | inl s ↦ ap (λ n. v (slice_index ss n)) s
-        | inr k ↦ elim k [
-          | inl s ↦ (pair_order v (slice_index ss p) (slice_index rs p) (slice_index ss q) (slice_index rs q) (order_at (EdgeHolds v) ss rs p q a s (omega arith) j)).same e
-          | inr s ↦ sym ((pair_order v (slice_index ss q) (slice_index rs q) (slice_index ss p) (slice_index rs p) (order_at (EdgeHolds v) ss rs q p a s (omega arith) i)).same (sym e))
-        ]
-      ];
-  less = λ p q i j e.
-      elim (cases_order p q) [
-        | inl s ↦ let f : slice_index_or rs p 0 ≡ slice_index_or rs q 0 = ap (λ n. slice_index rs n) s in absurd (omega arith)
-        | inr k ↦ elim k [
-          | inl s ↦ (pair_order v (slice_index ss p) (slice_index rs p) (slice_index ss q) (slice_index rs q) (order_at (EdgeHolds v) ss rs p q a s (omega arith) j)).less e
-          | inr s ↦ (pair_order v (slice_index ss q) (slice_index rs q) (slice_index ss p) (slice_index rs p) (order_at (EdgeHolds v) ss rs q p a s (omega arith) i)).more e
-        ]
-      ];
-}
+  order_solved : InOrder (ranks codes) (seat_numbers ts v) → All (EdgeHolds v) (order_edges (placed_seats_of ts codes))
+  order_solved o =
+      all_flat_map (EdgeHolds v) pair_edges (each_pair (placed_seats_of ts codes))
+      (all_placed_pairs ts codes seated PairHolds
+      (λ p q b l. order_pair v (placed_seat ts codes p) (placed_seat ts codes q) (record {
+        same = λ e. o.same p q (omega arith) l e;
+        less = λ e. o.less p q (omega arith) l e;
+        more = λ e. o.less q p l (omega arith) e;
+      })))
 
-pub fits_solve : (ts : List Term) (rows : List Row) (codes : List ℕ) (v : Numbers) → SpanFits ts rows codes v → Solution (constraints ts rows codes) v
-fits_solve ts rows codes v f = All-append (EdgeHolds v) (row_edges rows) (order_edges (seats_of ts) (ranks codes)) (rows_solved v rows f.hold) (order_solved v (seats_of ts) (ranks codes) f.ordered)
+  solved_order : All (EdgeHolds v) (order_edges (placed_seats_of ts codes)) → InOrder (ranks codes) (seat_numbers ts v)
+  solved_order a =
+      let pair : (p q : ℕ) → p < q → q < length (ranks codes) → PairInOrder v (placed_seat ts codes p) (placed_seat ts codes q) =
+      λ p q b l. pair_order v (placed_seat ts codes p) (placed_seat ts codes q) (placed_pair_at ts codes seated PairHolds (flat_map_all (EdgeHolds v) pair_edges (each_pair (placed_seats_of ts codes)) a) p q b l) in
+      record {
+        same = λ p q i j e.
+            elim (cases_order p q) [
+              | inl s ↦ ap (seat_numbers ts v) s
+              | inr k ↦ elim k [ inl s ↦ (pair p q s j).same e | inr s ↦ sym ((pair q p s i).same (sym e)) ]
+            ];
+        less = λ p q i j e.
+            elim (cases_order p q) [
+              | inl s ↦ let f = ap (slice_index (ranks codes)) s in absurd (omega arith)
+              | inr k ↦ elim k [ inl s ↦ (pair p q s j).less e | inr s ↦ (pair q p s i).more e ]
+            ];
+      }
 
-pub solutions_fit : (ts : List Term) (rows : List Row) (codes : List ℕ) (v : Numbers) → length codes ≤ length (seats_of ts) → Solution (constraints ts rows codes) v → SpanFits ts rows codes v
-solutions_fit ts rows codes v l s = record {
-  hold = rows_hold v rows (all_front (EdgeHolds v) (row_edges rows) (order_edges (seats_of ts) (ranks codes)) s);
-  ordered = solved_order v (seats_of ts) (ranks codes) (omega (arith, length_ranks codes)) (all_back (EdgeHolds v) (row_edges rows) (order_edges (seats_of ts) (ranks codes)) s);
-}
+  pub fits_solve : (rows : List Row) → SpanFits ts rows codes v → Solution (constraints ts rows codes) v
+  fits_solve rows f = All-append (EdgeHolds v) (row_edges rows) (order_edges (placed_seats_of ts codes)) (rows_solved v rows f.hold) (order_solved f.ordered)
+
+  pub solutions_fit : (rows : List Row) → Solution (constraints ts rows codes) v → SpanFits ts rows codes v
+  solutions_fit rows s = record {
+    hold = rows_hold v rows (all_front (EdgeHolds v) (row_edges rows) (order_edges (placed_seats_of ts codes)) s);
+    ordered = solved_order (all_back (EdgeHolds v) (row_edges rows) (order_edges (placed_seats_of ts codes)) s);
+  }

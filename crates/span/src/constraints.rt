@@ -1,7 +1,9 @@
 // The constraints of an engine as edges.
-ghost use Rattle.std.specs.Prelude.{◌≡◌, ◌++◌, map};
+ghost use Rattle.std.specs.List.{flat_map};
+ghost use Rattle.std.specs.Prelude.{◌≡◌, ◌++◌};
+ghost use Rattle.engine.specs.EachPair.{with_each};
 ghost use Rattle.engine.specs.States.{active_rows};
-ghost use Rattle.span.specs.Constraints.{edge, edges_with, order_edges, pair_edges, row_edges};
+ghost use Rattle.span.specs.Constraints.{edge, order_edges, pair_edges, row_edges};
 ghost use Rattle.span.specs.Lists.{FitInList};
 
 use arrayvec::ArrayVec;
@@ -49,8 +51,8 @@ pub(crate) fn list_rows(rows: &[Noted], list: &mut EdgeList)
 
 // The edges between two placed seats.
 fn list_pair(a: Placed, b: Placed, list: &mut EdgeList)
-    requires { FitInList (list.old.items ++ pair_edges a.term a.rank b.term b.rank) }
-    ensures { list.new.items ≡ list.old.items ++ pair_edges a.term a.rank b.term b.rank }
+    requires { FitInList (list.old.items ++ pair_edges (a, b)) }
+    ensures { list.new.items ≡ list.old.items ++ pair_edges (a, b) }
 {
     if a.rank < b.rank {
         list.push(edge_between(a, b, GAP));
@@ -64,10 +66,8 @@ fn list_pair(a: Placed, b: Placed, list: &mut EdgeList)
 
 // The edges between a placed seat and each of the others.
 fn list_pairs(first: Placed, others: &[Placed], list: &mut EdgeList)
-    requires { FitInList (list.old.items
-        ++ edges_with first.term first.rank (map (λ p. p.term) others.now) (map (λ p. p.rank) others.now)) }
-    ensures { list.new.items ≡ list.old.items
-        ++ edges_with first.term first.rank (map (λ p. p.term) others.now) (map (λ p. p.rank) others.now) }
+    requires { FitInList (list.old.items ++ flat_map pair_edges (with_each first others.now)) }
+    ensures { list.new.items ≡ list.old.items ++ flat_map pair_edges (with_each first others.now) }
 {
     for other in others {
         list_pair(first, *other, list);
@@ -76,10 +76,8 @@ fn list_pairs(first: Placed, others: &[Placed], list: &mut EdgeList)
 
 // The edges between each placed seat and each later one.
 pub(crate) fn list_order(placed: &[Placed], list: &mut EdgeList)
-    requires { FitInList (list.old.items
-        ++ order_edges (map (λ p. p.term) placed.now) (map (λ p. p.rank) placed.now)) }
-    ensures { list.new.items ≡ list.old.items
-        ++ order_edges (map (λ p. p.term) placed.now) (map (λ p. p.rank) placed.now) }
+    requires { FitInList (list.old.items ++ order_edges placed.now) }
+    ensures { list.new.items ≡ list.old.items ++ order_edges placed.now }
 {
     let mut rest = placed;
     while let [first, others @ ..] = rest {

@@ -54,7 +54,7 @@ impl Span {
     }
 
     // The constraints of the active span rows and of the codes placed.
-    #[tactic(auto, using(crate::proofs::Parts::few_rows, crate::proofs::Parts::placed_order))]
+    #[tactic(auto, using(crate::proofs::Parts::few_rows))]
     fn list_constraints(&self) -> EdgeList
         ensures { result.items ≡ constraints_of (state_in self.now) }
     {

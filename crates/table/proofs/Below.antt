@@ -1,7 +1,6 @@
 -- All terms that the code looks at have a place among the classes.
-use Rattle.std.proofs.Common.{◌≡◌, ℕ, ◌<◌, ◌≤◌, true, eqb, List, [], ◌∷◌, ◌++◌, map, length, All, arith}
-use Rattle.std.specs.List.{zip}
-use Rattle.std.proofs.lemmas.List.Elements.{All-nil, All-cons, All-head, All-tail, All-append, All-weaker}
+use Rattle.std.proofs.Common.{◌≡◌, ℕ, ◌<◌, ◌≤◌, true, List, [], ◌∷◌, length, get_or, All, arith}
+use Rattle.std.proofs.lemmas.List.Elements.{All-nil, All-cons, All-head, All-tail, All-append, All-get_or, All-weaker}
 use Rattle.std.proofs.lemmas.Bool.Decides.{nat_tests}
 use Rattle.std.proofs.lemmas.Bool.{and_parts, cond_both}
 use Rattle.sheet.specs.declared.row.Row.{Row}
@@ -10,19 +9,23 @@ use Rattle.sheet.specs.declared.term.Term.{Term}
 use Rattle.congruence.specs.Claims.{ArgumentsBelow, PairsBelow}
 use Rattle.engine.specs.declared.holdings.Holdings.{Holdings}
 use Rattle.engine.specs.declared.noted.Noted.{Noted}
-use Rattle.engine.specs.declared.placed.Placed.{Placed}
 use Rattle.engine.specs.Arrangements.{ranks}
+use Rattle.engine.specs.EachPair.{each_pair}
 use Rattle.engine.specs.Fitting.{all_rows_fit, row_fits}
 use Rattle.engine.specs.Holding.{state_of}
-use Rattle.engine.specs.Placing.{placed_at, placed_seats}
+use Rattle.engine.specs.Placing.{placed_seats}
 use Rattle.engine.specs.Rows.{terms_below}
 use Rattle.engine.specs.States.{active_rows}
 use Rattle.engine.specs.Terms.{arguments_below, seats_of}
 use Rattle.engine.proofs.Bounds.{bounds}
 use Rattle.engine.proofs.Fitting.{arguments_are_terms, below_more}
+use Rattle.engine.proofs.Placing.{all_placed, all_placed_pairs}
+use Rattle.engine.proofs.Ranks.{length_ranks}
 use Rattle.engine.proofs.Seats.{seats_within}
 use Rattle.table.specs.Apart.{RowsBelow, SeatsBelow}
-use Rattle.table.specs.Pairs.{block_pairs, mates, same_pairs}
+use Rattle.table.specs.Decisions.{equal_pairs}
+use Rattle.table.specs.Pairs.{block_pairs, same_pairs}
+use Rattle.table.proofs.Pairs.{IfInOneBlock, all_equated}
 
 -- the terms of a row
 row_below : (ts : List Term) (r : Row) → length ts ≤ 32 → row_fits ts r ≡ true → terms_below 32 r ≡ true
@@ -38,17 +41,16 @@ pub rows_below : (h : Holdings) → RowsBelow 32 (state_of h).rows
 rows_below h = rows_below_if (state_of h).terms (state_of h).rows (bounds h).terms h.rows_fit
 
 -- those of the seats
-zip_below : (n : ℕ) (ss rs : List ℕ) → All (λ s. s < n) ss → SeatsBelow n (map placed_at (zip ss rs))
-zip_below n [] rs a = All-nil _
-zip_below n (s ∷ ss) [] a = All-nil _
-zip_below n (s ∷ ss) (r ∷ rs) a =
-    All-cons (λ p. p.term < n) (placed_at (s, r)) (map placed_at (zip ss rs)) (All-head (λ s. s < n) s ss a) (zip_below n ss rs (All-tail (λ s. s < n) s ss a))
+pub seat_below : (h : Holdings) (p : ℕ) → p < length (ranks (state_of h).codes) → get_or (seats_of (state_of h).terms) p 0 < 32
+seat_below h p l =
+    let s = state_of h in
+    let b = bounds h in
+    let few = length_ranks s.codes in
+    let term = All-get_or (λ i. i < length s.terms) (seats_of s.terms) p 0 (omega arith) (seats_within s.terms) in
+    omega arith
 
 pub seats_below : (h : Holdings) → SeatsBelow 32 (placed_seats (state_of h))
-seats_below h =
-    let s = state_of h in
-    let few = (bounds h).terms in
-    zip_below 32 (seats_of s.terms) (ranks s.codes) (All-weaker (λ i. i < length s.terms) (λ i. i < 32) (λ i l. omega arith) (seats_of s.terms) (seats_within s.terms))
+seats_below h = all_placed (state_of h).terms (state_of h).codes (bounds h).placed (λ p. p.term < 32) (seat_below h)
 
 -- the arguments
 pub arguments_below_all : (h : Holdings) → ArgumentsBelow 32 (state_of h).terms
@@ -73,21 +75,10 @@ same_below n (Same i j ∷ rows) a =
     All-cons (λ q. (q.0 < n) × (q.1 < n)) (i, j) (same_pairs rows) (grind (arith, nat_tests), grind (arith, nat_tests)) (same_below n rows (All-tail (λ r. terms_below n r ≡ true) (Same i j) rows a))
 same_below n (Unlike i j ∷ rows) a = same_below n rows (All-tail (λ r. terms_below n r ≡ true) (Unlike i j) rows a)
 
-mates_below : (n : ℕ) (p : Placed) (qs : List Placed) → p.term < n → SeatsBelow n qs → PairsBelow n (mates p qs)
-mates_below n p [] l a = All-nil _
-mates_below n p (q ∷ qs) l a =
-    let rest = mates_below n p qs l (All-tail (λ (s : Placed). s.term < n) q qs a) in
-    cond_both (eqb q.rank p.rank) ((p.term, q.term) ∷ mates p qs) (mates p qs) (PairsBelow n)
-    (λ _. All-cons (λ x. (x.0 < n) × (x.1 < n)) (p.term, q.term) (mates p qs) (l, All-head (λ (s : Placed). s.term < n) q qs a) rest)
-    (λ _. rest)
-
-blocks_below : (n : ℕ) (ps : List Placed) → SeatsBelow n ps → PairsBelow n (block_pairs ps)
-blocks_below n [] a = All-nil _
-blocks_below n (p ∷ ps) a =
-    let rest = All-tail (λ (s : Placed). s.term < n) p ps a in
-    All-append (λ x. (x.0 < n) × (x.1 < n)) (mates p ps) (block_pairs ps) (mates_below n p ps (All-head (λ (s : Placed). s.term < n) p ps a) rest) (blocks_below n ps rest)
-
-pub pairs_below : (h : Holdings) → PairsBelow 32 (same_pairs (active_rows (state_of h).rows) ++ block_pairs (placed_seats (state_of h)))
+pub pairs_below : (h : Holdings) → PairsBelow 32 (equal_pairs (state_of h))
 pairs_below h =
-    All-append (λ x. (x.0 < 32) × (x.1 < 32)) (same_pairs (active_rows (state_of h).rows)) (block_pairs (placed_seats (state_of h)))
-    (same_below 32 (active_rows (state_of h).rows) (active_below 32 (state_of h).rows (rows_below h))) (blocks_below 32 (placed_seats (state_of h)) (seats_below h))
+    let s = state_of h in
+    let Below : ℕ × ℕ → Type 0 = λ x. (x.0 < 32) × (x.1 < 32) in
+    All-append Below (same_pairs (active_rows s.rows)) (block_pairs (placed_seats s)) (same_below 32 (active_rows s.rows) (active_below 32 s.rows (rows_below h)))
+    (all_equated Below (each_pair (placed_seats s))
+    (all_placed_pairs s.terms s.codes (bounds h).placed (IfInOneBlock Below) (λ p q b l _. (seat_below h p (omega arith), seat_below h q l))))

@@ -1,9 +1,9 @@
 -- A choice equates the pairs exactly where it makes the same rows true and gives the seats of each block one number. So the classes are
 -- those of the terms that are always equal.
-use Rattle.std.proofs.Common.{◌≡◌, ℕ, ◌<◌, ◌≤◌, List, length, get_or, take, All, sym, ap, ◌∙◌, subst, inl, inr, arith}
+use Rattle.std.proofs.Common.{◌≡◌, ℕ, ◌<◌, List, length, get_or, take, All, sym, ap, ◌∙◌, subst, inl, inr, arith}
 use Rattle.std.proofs.lemmas.List.Elements.{All-append}
 use Rattle.std.proofs.lemmas.List.{get_or-take, length-take}
-use Rattle.std.proofs.lemmas.Bool.{cases_order}
+use Rattle.std.proofs.lemmas.Bool.{cases_order, eq-eqb, eqb-true}
 use Rattle.congruence.specs.Claims.{Equal, EqualBy, ExactClasses}
 use Rattle.congruence.specs.Classes.{class_of}
 use Rattle.congruence.proofs.Exact.{closure_is_exact}
@@ -12,19 +12,18 @@ use Rattle.engine.specs.declared.placed.Placed.{Placed}
 use Rattle.engine.specs.Arrangements.{ranks}
 use Rattle.engine.specs.Holding.{state_of}
 use Rattle.engine.specs.Meaning.{Numbers, Tables, Interprets}
-use Rattle.engine.specs.Placing.{placed_at, placed_seats}
+use Rattle.engine.specs.EachPair.{each_pair}
+use Rattle.engine.specs.Placing.{placed_seats}
 use Rattle.engine.specs.Rules.{seat_numbers}
 use Rattle.engine.specs.States.{State, active_rows}
-use Rattle.engine.specs.Terms.{seats_of}
 use Rattle.engine.proofs.Bounds.{bounds}
 use Rattle.engine.proofs.Lists.{all_front, all_back}
-use Rattle.engine.proofs.Placing.{placed_by_place, placed_length}
-use Rattle.engine.proofs.Ranks.{length_ranks}
+use Rattle.engine.proofs.Placing.{all_placed_pairs, placed_pair_at}
 use Rattle.table.specs.Decisions.{classes_of, equal_pairs}
 use Rattle.table.specs.Equalities.{AlwaysEqual, EqualityClasses, Equates}
 use Rattle.table.specs.Pairs.{block_pairs, same_pairs}
 use Rattle.table.proofs.Below.{arguments_below_all, pairs_below}
-use Rattle.table.proofs.Pairs.{blocks_give_pairs, no_seat, pairs_give_blocks, pairs_give_rows, rows_give_pairs, seat}
+use Rattle.table.proofs.Pairs.{IfInOneBlock, all_equated, equated_at, pairs_give_rows, rows_give_pairs}
 
 module _ (h : Holdings) where
   abbrev s : State
@@ -36,34 +35,20 @@ module _ (h : Holdings) where
   abbrev ps : List Placed
   ps = placed_seats (state_of h)
 
-  -- as many ranks as placed seats, and no more than seats
-  pub ranks_seated : length (ranks (state_of h).codes) ≤ length (seats_of (state_of h).terms)
-  ranks_seated = omega (arith, length_ranks (state_of h).codes, (bounds h).placed)
-
-  pub as_many : length (placed_seats (state_of h)) ≡ length (ranks (state_of h).codes)
-  as_many = placed_length (seats_of (state_of h).terms) (ranks (state_of h).codes) ranks_seated
-
-  pub seat_is : (p : ℕ) → p < length (ranks (state_of h).codes) → seat (placed_seats (state_of h)) p ≡ placed_at (get_or (seats_of (state_of h).terms) p 0, get_or (ranks (state_of h).codes) p 0)
-  seat_is p l = placed_by_place (seats_of (state_of h).terms) (ranks (state_of h).codes) no_seat p (let m = ranks_seated in omega arith) l
-
   module _ (m : Tables) (v : Numbers) where
     pub equates_pairs : Equates (state_of h).terms (active_rows (state_of h).rows) (state_of h).codes m v → All (Equal v) (equal_pairs (state_of h))
     equates_pairs e =
         All-append (Equal v) (same_pairs (active_rows (state_of h).rows)) (block_pairs ps) (rows_give_pairs v (active_rows (state_of h).rows) e.hold)
-        (blocks_give_pairs (Equal v) ps (λ j k b l t.
-        let lk : k < length rs = omega (arith, as_many) in
-        let lj : j < length rs = omega arith in
-        let one : get_or rs j 0 ≡ get_or rs k 0 = sym (ap (λ (p : Placed). p.rank) (seat_is j lj)) ∙ sym t ∙ ap (λ (p : Placed). p.rank) (seat_is k lk) in
-        ap (λ (p : Placed). v p.term) (seat_is j lj) ∙ e.blocks j k lj lk one ∙ sym (ap (λ (p : Placed). v p.term) (seat_is k lk))))
+        (all_equated (Equal v) (each_pair ps)
+        (all_placed_pairs (state_of h).terms (state_of h).codes (bounds h).placed (IfInOneBlock (Equal v))
+        (λ p q b l t. e.blocks p q (omega arith) l (sym (eqb-true (get_or rs q 0) (get_or rs p 0) t)))))
 
     -- a later seat of the same block
     later_equal : All (Equal v) (equal_pairs (state_of h)) → (p q : ℕ) → p < q → q < length (ranks (state_of h).codes) → get_or (ranks (state_of h).codes) p 0 ≡ get_or (ranks (state_of h).codes) q 0
         → seat_numbers (state_of h).terms v p ≡ seat_numbers (state_of h).terms v q
     later_equal a p q b l t =
-        let lp : p < length rs = omega arith in
-        let same : (seat ps q).rank ≡ (seat ps p).rank = ap (λ (x : Placed). x.rank) (seat_is q l) ∙ sym t ∙ sym (ap (λ (x : Placed). x.rank) (seat_is p lp)) in
-        let pair = pairs_give_blocks (Equal v) ps p q (all_back (Equal v) (same_pairs (active_rows (state_of h).rows)) (block_pairs ps) a) b (omega (arith, as_many)) same in
-        sym (ap (λ (x : Placed). v x.term) (seat_is p lp)) ∙ pair ∙ ap (λ (x : Placed). v x.term) (seat_is q l)
+        let pairs : All (IfInOneBlock (Equal v)) (each_pair ps) = equated_at (Equal v) (each_pair ps) (all_back (Equal v) (same_pairs (active_rows (state_of h).rows)) (block_pairs ps) a) in
+        placed_pair_at (state_of h).terms (state_of h).codes (bounds h).placed (IfInOneBlock (Equal v)) pairs p q b l (eq-eqb (get_or rs q 0) (get_or rs p 0) (sym t))
 
     pub pairs_equate : Interprets m (state_of h).terms v → All (Equal v) (equal_pairs (state_of h)) → Equates (state_of h).terms (active_rows (state_of h).rows) (state_of h).codes m v
     pairs_equate i a =

@@ -1,6 +1,7 @@
 -- The classes decide whether an allowed arrangement begins with the codes placed.
 use Rattle.std.proofs.Common.{◌≡◌, ℕ, ◌<◌, ◌↔◌, Bool, true, false, eqb, IsTrue, ◌&&◌, List, [], ◌∷◌, length, get_or, All, sym, refl, ap, ◌∙◌, inl, inr, arith}
 use Rattle.std.proofs.lemmas.List.Elements.{All-nil, All-cons, All-head, All-tail, All-weaker}
+use Rattle.std.proofs.lemmas.List.Sums.{AllPass-from_list_all, list_all-from_AllPass}
 use Rattle.std.proofs.lemmas.Int.{ints}
 use Rattle.std.proofs.lemmas.Bool.Decides.{nat_tests}
 use Rattle.std.proofs.lemmas.Bool.{and_from, and_parts, both_ways, cases_Bool, cases_eq, cases_order, eq-eqb, eqb-true}
@@ -13,6 +14,7 @@ use Rattle.congruence.proofs.Exact.{ClassModel, closure_model}
 use Rattle.engine.specs.declared.holdings.Holdings.{Holdings}
 use Rattle.engine.specs.declared.placed.Placed.{Placed}
 use Rattle.engine.specs.Arrangements.{EqualInBlocks, ranks}
+use Rattle.engine.specs.EachPair.{each_pair}
 use Rattle.engine.specs.Holding.{state_of}
 use Rattle.engine.specs.Meaning.{Numbers}
 use Rattle.engine.specs.Placing.{placed_seats}
@@ -23,12 +25,12 @@ use Rattle.engine.specs.Terms.{seats_of}
 use Rattle.engine.proofs.Bounds.{bounds}
 use Rattle.engine.proofs.Completing.{blocks_extended}
 use Rattle.engine.proofs.Following.{blocks_front}
+use Rattle.engine.proofs.Placing.{all_placed_pairs, placed_pair_at, placed_seat}
 use Rattle.table.specs.Apart.{blocks_apart, row_apart, rows_apart, two_apart}
 use Rattle.table.specs.Decisions.{classes_of, equal_pairs}
 use Rattle.table.specs.Equalities.{AlwaysEqual, Equates, KeptApart, RowKeptApart, SameHolds}
-use Rattle.table.proofs.Below.{active_below, rows_below, seats_below}
-use Rattle.table.proofs.Equating.{as_many, by_choices, exact, pairs_equate, seat_is}
-use Rattle.table.proofs.Pairs.{all_blocks_apart, blocks_apart_at, no_seat, seat}
+use Rattle.table.proofs.Below.{active_below, rows_below, seat_below}
+use Rattle.table.proofs.Equating.{by_choices, exact, pairs_equate}
 
 -- the test that the code makes
 abbrev is_consistent : State → Bool
@@ -96,13 +98,10 @@ module _ (h : Holdings) where
       → seat_numbers (state_of h).terms (class_numbers (classes_of (state_of h))) p ≡ seat_numbers (state_of h).terms (class_numbers (classes_of (state_of h))) q
       → get_or (ranks (state_of h).codes) p 0 ≡ get_or (ranks (state_of h).codes) q 0
   one_block apart p q b l e =
-      let test : two_apart cl (seat ps p) (seat ps q) ≡ true = blocks_apart_at cl ps p q apart b (omega (arith, as_many h)) in
-      let lp : p < length rs = omega arith in
-      let here = seat_is h p lp in
-      let there = seat_is h q l in
-      let one : class_of cl (seat ps p).term ≡ class_of cl (seat ps q).term = ap (λ (x : Placed). class_of cl x.term) here ∙ omega (arith, ints) ∙ sym (ap (λ (x : Placed). class_of cl x.term) there) in
-      let equal : (seat ps q).rank ≡ (seat ps p).rank = grind (arith, nat_tests) in
-      sym (ap (λ (x : Placed). x.rank) here) ∙ sym equal ∙ ap (λ (x : Placed). x.rank) there
+      let test : two_apart cl (placed_seat s.terms s.codes p, placed_seat s.terms s.codes q) ≡ true =
+      placed_pair_at s.terms s.codes (bounds h).placed (λ x. two_apart cl x ≡ true) (AllPass-from_list_all (two_apart cl) (each_pair ps) apart) p q b l in
+      let one : class_of cl (get_or (seats_of s.terms) p 0) ≡ class_of cl (get_or (seats_of s.terms) q 0) = omega (arith, ints) in
+      grind (arith, nat_tests)
 
   -- the class numbers are a choice, and go on to an arrangement
   opened : is_consistent (state_of h) ≡ true → Completion TableAllowed (state_of h)
@@ -150,23 +149,17 @@ module _ (h : Holdings) where
   one_class_equal : (i j : ℕ) → i < 32 → j < 32 → class_of (classes_of (state_of h)) i ≡ class_of (classes_of (state_of h)) j → AlwaysEqual (state_of h).terms (active_rows (state_of h).rows) (state_of h).codes i j
   one_class_equal i j li lj c = by_choices h i j ((exact h).equal i j li lj c)
 
-  two_blocks : KeptApart (state_of h) → (j k : ℕ) → j < k → k < length (placed_seats (state_of h)) → two_apart (classes_of (state_of h)) (seat (placed_seats (state_of h)) j) (seat (placed_seats (state_of h)) k) ≡ true
-  two_blocks kept j k b l =
-      let p = seat ps j in
-      let q = seat ps k in
-      let lk : k < length rs = omega (arith, as_many h) in
-      let lj : j < length rs = omega arith in
-      let here = seat_is h j lj in
-      let there = seat_is h k lk in
-      elim (cases_eq q.rank p.rank) [
-        | inl e ↦ let same : eqb q.rank p.rank ≡ true = eq-eqb q.rank p.rank e in grind arith
-        | inr d ↦ elim (cases_Bool (in_one_class cl p.term q.term)) [
+  two_blocks : KeptApart (state_of h) → (p q : ℕ) → p < q → q < length (ranks (state_of h).codes)
+      → two_apart (classes_of (state_of h)) (placed_seat (state_of h).terms (state_of h).codes p, placed_seat (state_of h).terms (state_of h).codes q) ≡ true
+  two_blocks kept p q b l =
+      let t = get_or (seats_of s.terms) p 0 in
+      let u = get_or (seats_of s.terms) q 0 in
+      let lp : p < length rs = omega arith in
+      elim (cases_eq (get_or rs q 0) (get_or rs p 0)) [
+        | inl e ↦ let same : eqb (get_or rs q 0) (get_or rs p 0) ≡ true = eq-eqb (get_or rs q 0) (get_or rs p 0) e in grind arith
+        | inr d ↦ elim (cases_Bool (in_one_class cl t u)) [
           | inr n ↦ grind arith
-          | inl y ↦
-              let one = one_class_equal p.term q.term (seats_below h j no_seat (omega arith)) (seats_below h k no_seat l) (eqb-true (class_of cl p.term) (class_of cl q.term) y) in
-              let always : AlwaysEqual s.terms (active_rows s.rows) s.codes (get_or (seats_of s.terms) j 0) (get_or (seats_of s.terms) k 0) =
-              λ m v e. sym (ap (λ (x : Placed). v x.term) here) ∙ one m v e ∙ ap (λ (x : Placed). v x.term) there in
-              absurd (kept.blocks j k lj lk (λ e. d (ap (λ (x : Placed). x.rank) there ∙ sym e ∙ sym (ap (λ (x : Placed). x.rank) here))) always)
+          | inl y ↦ absurd (kept.blocks p q lp l (λ e. d (sym e)) (one_class_equal t u (seat_below h p lp) (seat_below h q l) (eqb-true (class_of cl t) (class_of cl u) y)))
         ]
       ]
 
@@ -175,7 +168,7 @@ module _ (h : Holdings) where
       let rows = active_rows s.rows in
       and_from (rows_apart cl rows) (blocks_apart cl ps)
       (kept_rows cl (AlwaysEqual s.terms rows s.codes) 32 rows one_class_equal (active_below 32 s.rows (rows_below h)) kept.rows)
-      (all_blocks_apart cl ps (two_blocks kept))
+      (list_all-from_AllPass (two_apart cl) (each_pair ps) (all_placed_pairs s.terms s.codes (bounds h).placed (λ x. two_apart cl x ≡ true) (two_blocks kept)))
 
   -- what the code decides, in three ways
   pub record Decided (r : Bool) : Type 0 where

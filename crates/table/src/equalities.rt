@@ -1,10 +1,11 @@
 // Equalities that are given: those of the active same rows, and those of the blocks.
 ghost use Rattle.std.specs.Prelude.{◌≡◌, ◌<◌};
 ghost use Rattle.congruence.specs.Classes.{merge_all};
+ghost use Rattle.engine.specs.EachPair.{with_each};
 ghost use Rattle.engine.specs.Limits.{max_terms};
 ghost use Rattle.engine.specs.States.{active_rows};
 ghost use Rattle.table.specs.Apart.{RowsBelow, SeatsBelow};
-ghost use Rattle.table.specs.Pairs.{block_pairs, mates, same_pairs};
+ghost use Rattle.table.specs.Pairs.{block_pairs, equated_terms, same_pairs};
 
 use crate::classes::Classes;
 use engine::noted::Noted;
@@ -34,16 +35,16 @@ pub(crate) fn merge_blocks(placed: &[Placed], classes: &mut Classes)
 {
     let mut rest = placed;
     while let [first, others @ ..] = rest {
-        merge_mates(*first, others, classes);
+        merge_block_of(*first, others, classes);
         rest = others;
     }
 }
 
 // Makes one the classes of a seat and of each of the others that is in its block.
-fn merge_mates(seat: Placed, others: &[Placed], classes: &mut Classes)
+fn merge_block_of(seat: Placed, others: &[Placed], classes: &mut Classes)
     requires here { seat.term < max_terms }
     requires there { SeatsBelow max_terms others.now }
-    ensures { classes.new.least ≡ merge_all (mates seat others.now) classes.old.least }
+    ensures { classes.new.least ≡ merge_all (equated_terms (with_each seat others.now)) classes.old.least }
 {
     for other in others {
         if other.rank == seat.rank {

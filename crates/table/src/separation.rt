@@ -1,8 +1,10 @@
 // What is to be apart: the terms of each active unlike row, and seats of different blocks.
+ghost use Rattle.std.specs.List.{list_all};
 ghost use Rattle.std.specs.Prelude.{◌≡◌, ◌<◌};
+ghost use Rattle.engine.specs.EachPair.{with_each};
 ghost use Rattle.engine.specs.Limits.{max_terms};
 ghost use Rattle.engine.specs.States.{active_rows};
-ghost use Rattle.table.specs.Apart.{RowsBelow, SeatsBelow, blocks_apart, rows_apart, seat_apart};
+ghost use Rattle.table.specs.Apart.{RowsBelow, SeatsBelow, blocks_apart, rows_apart, two_apart};
 
 use crate::classes::Classes;
 use engine::noted::Noted;
@@ -46,7 +48,7 @@ pub(crate) fn blocks_apart(placed: &[Placed], classes: &Classes) -> bool
 fn seat_apart(seat: Placed, others: &[Placed], classes: &Classes) -> bool
     requires here { seat.term < max_terms }
     requires there { SeatsBelow max_terms others.now }
-    ensures { result ≡ seat_apart classes.now.least seat others.now }
+    ensures { result ≡ list_all (two_apart classes.now.least) (with_each seat others.now) }
 {
     for other in others {
         if other.rank != seat.rank && classes.in_one_class(seat.term, other.term) {
