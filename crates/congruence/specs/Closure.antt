@@ -1,5 +1,6 @@
 -- Congruence closure: two applications of one table are put into one class where their arguments are in one, round after round.
 use Rattle.std.specs.Prelude.{ℕ, zero, suc, Bool, false, if◌then◌else◌, ◌&&◌, List, length, ◌==◌}
+use Rattle.std.specs.Fn.{iterate}
 use Rattle.sheet.specs.declared.term.Form.{Form}
 use Rattle.sheet.specs.declared.term.Form.TheVariants.{Name, One, Two}
 use Rattle.sheet.specs.declared.term.Term.{Term}
@@ -38,8 +39,7 @@ abbrev pub close_round : List Term → List ℕ → List ℕ
 close_round ts cl = close_terms ts (length ts) cl
 
 abbrev pub close_rounds : List Term → ℕ → List ℕ → List ℕ
-close_rounds ts zero cl = cl
-close_rounds ts (suc k) cl = close_rounds ts k (close_round ts cl)
+close_rounds ts k cl = iterate (close_round ts) k cl
 
 -- the classes of `size` terms, of which ts are the first, once the terms of each pair are put into one class. As many rounds as there are terms
 -- suffice: each round but the last leaves fewer classes

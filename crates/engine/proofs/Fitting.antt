@@ -3,7 +3,8 @@ use Rattle.std.proofs.Common.{◌≡◌, ℕ, zero, suc, ◌+◌, ◌<◌, ◌�
 use Rattle.std.proofs.lemmas.List.{append_assoc, append-nil, get_or_append_left, get_or_default, length_push}
 use Rattle.std.proofs.lemmas.List.Recursion.{and_push}
 use Rattle.std.proofs.lemmas.Bool.Decides.{nat_tests}
-use Rattle.std.proofs.lemmas.Bool.{and_parts, and_from}
+use Rattle.std.proofs.lemmas.List.Elements.{All-nil, All-cons, All-head, All-tail}
+use Rattle.std.proofs.lemmas.Bool.{and_parts, and_from, cond_both}
 use Rattle.sheet.specs.declared.fault.Cause.{Cause}
 use Rattle.sheet.specs.declared.row.Row.{Row}
 use Rattle.sheet.specs.declared.row.Row.TheVariants.{Span, Same, Unlike}
@@ -17,6 +18,7 @@ use Rattle.engine.specs.Rows.{left_of, right_of, is_span_on_level}
 use Rattle.engine.specs.Refusals.{term_refusal, row_refusal}
 use Rattle.engine.specs.Fitting.{is_accepted, is_name, is_zero_term, terms_fit, all_terms_fit, row_fits, all_rows_fit}
 use Rattle.engine.specs.Calls.{rows_with_mark}
+use Rattle.engine.specs.States.{active_rows}
 use Rattle.engine.proofs.Seats.{seats_push}
 
 -- one term more
@@ -69,6 +71,19 @@ pub rows_take : (ts : List Term) (n : ℕ) (ms : List Noted) → all_rows_fit ts
 rows_take ts zero ms f = refl
 rows_take ts (suc n) [] f = refl
 rows_take ts (suc n) (m ∷ ms) f = grind (arith, nat_tests, rows_take ts n ms)
+
+pub each_row_fits : (ts : List Term) (ms : List Noted) → all_rows_fit ts ms ≡ true → All (λ m. row_fits ts m.row ≡ true) ms
+each_row_fits ts [] f = All-nil _
+each_row_fits ts (m ∷ ms) f =
+    let p = and_parts (row_fits ts m.row) (all_rows_fit ts ms) f in
+    All-cons (λ (n : Noted). row_fits ts n.row ≡ true) m ms p.0 (each_row_fits ts ms p.1)
+
+-- what holds of each row that is held holds of each active one
+pub all_active : (P : Row → Type 0) (ms : List Noted) → All (λ m. P m.row) ms → All P (active_rows ms)
+all_active P [] a = All-nil _
+all_active P (m ∷ ms) a =
+    let rest = all_active P ms (All-tail (λ (n : Noted). P n.row) m ms a) in
+    cond_both m.active (m.row ∷ active_rows ms) (active_rows ms) (All P) (λ _. All-cons P m.row (active_rows ms) (All-head (λ (n : Noted). P n.row) m ms a) rest) (λ _. rest)
 
 -- a mark changes no row
 pub rows_marked : (ts : List Term) (i : ℕ) (b : Bool) (ms : List Noted) → all_rows_fit ts (rows_with_mark i b ms) ≡ all_rows_fit ts ms

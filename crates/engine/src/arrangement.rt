@@ -36,7 +36,7 @@ fn open_block(ranks: &mut [u8], block: u8)
 }
 
 // The rank of each seat that has a code. Codes past the eighth are not looked at.
-pub fn rank_seats(codes: &[u8]) -> ArrayVec<u8, MAX_SEATS>
+pub(crate) fn rank_seats(codes: &[u8]) -> ArrayVec<u8, MAX_SEATS>
     ensures { result.items ≡ ranks (take max_seats codes.now) }
 {
     let mut ranks = ArrayVec::new();

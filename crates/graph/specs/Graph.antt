@@ -1,5 +1,6 @@
 -- Difference constraints as a graph: solutions, walks, and the distances that relaxing the edges makes.
 use Rattle.std.specs.Prelude.{◌≡◌, ℕ, zero, suc, ◌<◌, Bool, true, if◌then◌else◌, not, ◌&&◌, List, [], ◌∷◌, ℤ, pos, ◌+ℤ◌, ◌≤ℤ◌, ◌<ℤ◌, int_lt, slice_index_or, slice_set, All, Contains}
+use Rattle.std.specs.Fn.{iterate}
 use Rattle.graph.specs.declared.Edge.{Edge}
 
 -- both ends of every edge are below n
@@ -52,8 +53,7 @@ round [] d = d
 round (e ∷ es) d = round es (relaxed e d)
 
 abbrev pub rounds : ℕ → List Edge → List ℤ → List ℤ
-rounds zero es d = d
-rounds (suc k) es d = rounds k es (round es d)
+rounds k es d = iterate (round es) k d
 
 -- n vertices, all at 0
 abbrev pub zeros : ℕ → List ℤ

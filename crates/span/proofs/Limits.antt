@@ -1,9 +1,8 @@
 -- The edges of the constraints join seats, and none weighs less than the least bound.
 use Rattle.std.specs.Prelude.{◌≡◌, ℕ, ◌<◌, Bool, true, false, cond, List, [], ◌∷◌, length, pos, negsuc, neg_ℤ, ◌≤ℤ◌, nat_lt, All, Contains}
 use Rattle.std.proofs.Common.{arith}
-use Rattle.std.proofs.lemmas.List.Elements.{All-nil, All-cons, All-append, All-weaker, All-contains, Contains-get_or}
+use Rattle.std.proofs.lemmas.List.Elements.{All-nil, All-cons, All-head, All-tail, All-append, All-weaker, All-contains, Contains-get_or}
 use Rattle.std.proofs.lemmas.Int.{ints}
-use Rattle.std.proofs.lemmas.Bool.{and_parts, cond_both}
 use Rattle.graph.specs.declared.Edge.{Edge}
 use Rattle.graph.specs.Graph.{Within}
 use Rattle.graph.specs.Claims.{Among, WeightsAtLeast}
@@ -11,15 +10,15 @@ use Rattle.sheet.specs.declared.row.Row.{Row}
 use Rattle.sheet.specs.declared.row.Row.TheVariants.{Span, Same, Unlike}
 use Rattle.sheet.specs.declared.term.Term.{Term}
 use Rattle.engine.specs.declared.holdings.Holdings.{Holdings}
-use Rattle.engine.specs.declared.noted.Noted.{Noted}
 use Rattle.engine.specs.declared.placed.Placed.{Placed}
 use Rattle.engine.specs.EachPair.{each_pair}
-use Rattle.engine.specs.Fitting.{all_rows_fit, row_fits}
+use Rattle.engine.specs.Fitting.{row_fits}
 use Rattle.engine.specs.Holding.{state_of}
 use Rattle.engine.specs.Placing.{placed_seats}
 use Rattle.engine.specs.States.{active_rows}
 use Rattle.engine.specs.Terms.{is_dated_at, seats_of}
 use Rattle.engine.proofs.Bounds.{bounds}
+use Rattle.engine.proofs.Fitting.{all_active, each_row_fits}
 use Rattle.engine.proofs.Lists.{all_flat_map}
 use Rattle.engine.proofs.Placing.{all_placed_pairs, placed_seat}
 use Rattle.engine.proofs.Ranks.{length_ranks}
@@ -42,12 +41,9 @@ row_edges_fit ts (Span i j c) rows f a =
 row_edges_fit ts (Same i j) rows f a = a
 row_edges_fit ts (Unlike i j) rows f a = a
 
-rows_fit : (ts : List Term) (ms : List Noted) → all_rows_fit ts ms ≡ true → All (EdgeFits (seats_of ts)) (row_edges (active_rows ms))
+rows_fit : (ts : List Term) (rows : List Row) → All (λ r. row_fits ts r ≡ true) rows → All (EdgeFits (seats_of ts)) (row_edges rows)
 rows_fit ts [] f = All-nil _
-rows_fit ts (m ∷ ms) f =
-    let p = and_parts (row_fits ts m.row) (all_rows_fit ts ms) f in
-    let rest = rows_fit ts ms p.1 in
-    cond_both m.active (m.row ∷ active_rows ms) (active_rows ms) (λ rows. All (EdgeFits (seats_of ts)) (row_edges rows)) (λ _. row_edges_fit ts m.row (active_rows ms) p.0 rest) (λ _. rest)
+rows_fit ts (r ∷ rows) f = row_edges_fit ts r rows (All-head (λ r. row_fits ts r ≡ true) r rows f) (rows_fit ts rows (All-tail (λ r. row_fits ts r ≡ true) r rows f))
 
 pair_fits : (ss : List ℕ) (p q : Placed) → Contains ss p.term → Contains ss q.term → All (EdgeFits ss) (pair_edges (p, q))
 pair_fits ss p q h k = go (nat_lt p.rank q.rank) (nat_lt q.rank p.rank)
@@ -65,7 +61,7 @@ edges_fit h =
     let placed = (bounds h).placed in
     let few = length_ranks s.codes in
     let pairs = each_pair (placed_seats s) in
-    All-append (EdgeFits ss) (row_edges (active_rows s.rows)) (order_edges (placed_seats s)) (rows_fit s.terms s.rows h.rows_fit)
+    All-append (EdgeFits ss) (row_edges (active_rows s.rows)) (order_edges (placed_seats s)) (rows_fit s.terms (active_rows s.rows) (all_active (λ r. row_fits s.terms r ≡ true) s.rows (each_row_fits s.terms s.rows h.rows_fit)))
     (all_flat_map (EdgeFits ss) pair_edges pairs
     (all_placed_pairs s.terms s.codes placed (λ x. All (EdgeFits ss) (pair_edges x))
     (λ p q b l. pair_fits ss (placed_seat s.terms s.codes p) (placed_seat s.terms s.codes q) (Contains-get_or ss p 0 (omega arith)) (Contains-get_or ss q 0 (omega arith)))))

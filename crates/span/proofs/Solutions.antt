@@ -1,5 +1,5 @@
 -- Numbers that fit the rows and the codes are the solutions of the constraints.
-use Rattle.std.specs.Prelude.{ℕ, ◌<◌, ◌≤◌, List, [], ◌∷◌, length, ◌+ℤ◌, ◌-ℤ◌, ◌≤ℤ◌, slice_index, All}
+use Rattle.std.specs.Prelude.{◌≡◌, refl, ℕ, ◌<◌, ◌≤◌, List, [], ◌∷◌, length, ◌+ℤ◌, ◌-ℤ◌, ◌≤ℤ◌, slice_index, All}
 use Rattle.std.proofs.Common.{sym, ap, inl, inr, arith}
 use Rattle.std.proofs.lemmas.List.Elements.{All-nil, All-cons, All-head, All-tail, All-append}
 use Rattle.std.proofs.lemmas.Int.{ints}
@@ -16,6 +16,7 @@ use Rattle.engine.specs.Placing.{placed_seats_of}
 use Rattle.engine.specs.Rules.{SpanFits, SpanHolds, seat_numbers}
 use Rattle.engine.specs.Terms.{seats_of}
 use Rattle.span.specs.Constraints.{constraints, order_edges, pair_edges, row_edges}
+use Rattle.engine.proofs.EachPair.{either_way}
 use Rattle.engine.proofs.Lists.{all_back, all_flat_map, all_front, flat_map_all}
 use Rattle.engine.proofs.Placing.{all_placed_pairs, placed_pair_at, placed_seat}
 use Rattle.span.proofs.Pairs.{PairInOrder, order_pair, pair_order}
@@ -52,11 +53,7 @@ module _ (v : Numbers) (ts : List Term) (codes : List ℕ) (seated : length code
       let pair : (p q : ℕ) → p < q → q < length (ranks codes) → PairInOrder v (placed_seat ts codes p) (placed_seat ts codes q) =
       λ p q b l. pair_order v (placed_seat ts codes p) (placed_seat ts codes q) (placed_pair_at ts codes seated PairHolds (flat_map_all (EdgeHolds v) pair_edges (each_pair (placed_seats_of ts codes)) a) p q b l) in
       record {
-        same = λ p q i j e.
-            elim (cases_order p q) [
-              | inl s ↦ ap (seat_numbers ts v) s
-              | inr k ↦ elim k [ inl s ↦ (pair p q s j).same e | inr s ↦ sym ((pair q p s i).same (sym e)) ]
-            ];
+        same = either_way (λ p q. slice_index (ranks codes) p ≡ slice_index (ranks codes) q → seat_numbers ts v p ≡ seat_numbers ts v q) (length (ranks codes)) (λ p e. refl) (λ p q f e. sym (f (sym e))) (λ p q b l. (pair p q b l).same);
         less = λ p q i j e.
             elim (cases_order p q) [
               | inl s ↦ let f = ap (slice_index (ranks codes)) s in absurd (omega arith)

@@ -1,24 +1,23 @@
 -- All terms that the code looks at have a place among the classes.
-use Rattle.std.proofs.Common.{◌≡◌, ℕ, ◌<◌, ◌≤◌, true, List, [], ◌∷◌, length, get_or, All, arith}
-use Rattle.std.proofs.lemmas.List.Elements.{All-nil, All-cons, All-head, All-tail, All-append, All-get_or, All-weaker}
+use Rattle.std.proofs.Common.{◌≡◌, ℕ, ◌<◌, ◌≤◌, true, List, [], ◌∷◌, length, get_or, take, drop, All, arith}
+use Rattle.std.proofs.lemmas.List.Elements.{All-nil, All-cons, All-head, All-tail, All-append, All-drop, All-get_or, All-take, All-weaker}
 use Rattle.std.proofs.lemmas.Bool.Decides.{nat_tests}
-use Rattle.std.proofs.lemmas.Bool.{and_parts, cond_both}
 use Rattle.sheet.specs.declared.row.Row.{Row}
 use Rattle.sheet.specs.declared.row.Row.TheVariants.{Span, Same, Unlike}
 use Rattle.sheet.specs.declared.term.Term.{Term}
 use Rattle.congruence.specs.Claims.{ArgumentsBelow, PairsBelow}
 use Rattle.engine.specs.declared.holdings.Holdings.{Holdings}
-use Rattle.engine.specs.declared.noted.Noted.{Noted}
+use Rattle.engine.specs.declared.placed.Placed.{Placed}
 use Rattle.engine.specs.Arrangements.{ranks}
 use Rattle.engine.specs.EachPair.{each_pair}
-use Rattle.engine.specs.Fitting.{all_rows_fit, row_fits}
+use Rattle.engine.specs.Fitting.{row_fits}
 use Rattle.engine.specs.Holding.{state_of}
 use Rattle.engine.specs.Placing.{placed_seats}
 use Rattle.engine.specs.Rows.{terms_below}
 use Rattle.engine.specs.States.{active_rows}
 use Rattle.engine.specs.Terms.{arguments_below, seats_of}
 use Rattle.engine.proofs.Bounds.{bounds}
-use Rattle.engine.proofs.Fitting.{arguments_are_terms, below_more}
+use Rattle.engine.proofs.Fitting.{all_active, arguments_are_terms, below_more, each_row_fits}
 use Rattle.engine.proofs.Placing.{all_placed, all_placed_pairs}
 use Rattle.engine.proofs.Ranks.{length_ranks}
 use Rattle.engine.proofs.Seats.{seats_within}
@@ -31,14 +30,10 @@ use Rattle.table.proofs.Pairs.{IfInOneBlock, all_equated}
 row_below : (ts : List Term) (r : Row) → length ts ≤ 32 → row_fits ts r ≡ true → terms_below 32 r ≡ true
 row_below ts r few f = grind (arith, nat_tests)
 
-rows_below_if : (ts : List Term) (ms : List Noted) → length ts ≤ 32 → all_rows_fit ts ms ≡ true → RowsBelow 32 ms
-rows_below_if ts [] few f = All-nil _
-rows_below_if ts (m ∷ ms) few f =
-    let p = and_parts (row_fits ts m.row) (all_rows_fit ts ms) f in
-    All-cons (λ n. terms_below 32 n.row ≡ true) m ms (row_below ts m.row few p.0) (rows_below_if ts ms few p.1)
-
 pub rows_below : (h : Holdings) → RowsBelow 32 (state_of h).rows
-rows_below h = rows_below_if (state_of h).terms (state_of h).rows (bounds h).terms h.rows_fit
+rows_below h =
+    let s = state_of h in
+    All-weaker (λ m. row_fits s.terms m.row ≡ true) (λ m. terms_below 32 m.row ≡ true) (λ m. row_below s.terms m.row (bounds h).terms) s.rows (each_row_fits s.terms s.rows h.rows_fit)
 
 -- those of the seats
 pub seat_below : (h : Holdings) (p : ℕ) → p < length (ranks (state_of h).codes) → get_or (seats_of (state_of h).terms) p 0 < 32
@@ -59,13 +54,8 @@ arguments_below_all h =
     All-weaker (λ (t : Term). arguments_below (length ts) t.form ≡ true) (λ t. arguments_below 32 t.form ≡ true) (λ t l. below_more (length ts) 32 t.form (bounds h).terms l) ts (arguments_are_terms ts h.terms_fit)
 
 -- those of the active rows, and so of the pairs
-pub active_below : (n : ℕ) (ms : List Noted) → RowsBelow n ms → All (λ r. terms_below n r ≡ true) (active_rows ms)
-active_below n [] a = All-nil _
-active_below n (m ∷ ms) a =
-    let rest = active_below n ms (All-tail (λ (k : Noted). terms_below n k.row ≡ true) m ms a) in
-    cond_both m.active (m.row ∷ active_rows ms) (active_rows ms) (All (λ r. terms_below n r ≡ true))
-    (λ _. All-cons (λ r. terms_below n r ≡ true) m.row (active_rows ms) (All-head (λ (k : Noted). terms_below n k.row ≡ true) m ms a) rest)
-    (λ _. rest)
+pub active_below : (h : Holdings) → All (λ r. terms_below 32 r ≡ true) (active_rows (state_of h).rows)
+active_below h = all_active (λ r. terms_below 32 r ≡ true) (state_of h).rows (rows_below h)
 
 same_below : (n : ℕ) (rows : List Row) → All (λ r. terms_below n r ≡ true) rows → PairsBelow n (same_pairs rows)
 same_below n [] a = All-nil _
@@ -79,6 +69,10 @@ pub pairs_below : (h : Holdings) → PairsBelow 32 (equal_pairs (state_of h))
 pairs_below h =
     let s = state_of h in
     let Below : ℕ × ℕ → Type 0 = λ x. (x.0 < 32) × (x.1 < 32) in
-    All-append Below (same_pairs (active_rows s.rows)) (block_pairs (placed_seats s)) (same_below 32 (active_rows s.rows) (active_below 32 s.rows (rows_below h)))
+    All-append Below (same_pairs (active_rows s.rows)) (block_pairs (placed_seats s)) (same_below 32 (active_rows s.rows) (active_below h))
     (all_equated Below (each_pair (placed_seats s))
     (all_placed_pairs s.terms s.codes (bounds h).placed (IfInOneBlock Below) (λ p q b l _. (seat_below h p (omega arith), seat_below h q l))))
+
+-- past the first seat
+pub others_below : (n : ℕ) (ps : List Placed) → SeatsBelow 32 ps → SeatsBelow 32 (take n (drop 1 ps))
+others_below n ps a = All-take (λ p. p.term < 32) n (drop 1 ps) (All-drop (λ p. p.term < 32) 1 ps a)

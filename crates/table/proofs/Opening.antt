@@ -1,10 +1,10 @@
 -- The classes decide whether an allowed arrangement begins with the codes placed.
-use Rattle.std.proofs.Common.{◌≡◌, ℕ, ◌<◌, ◌↔◌, Bool, true, false, eqb, IsTrue, ◌&&◌, List, [], ◌∷◌, length, get_or, All, sym, refl, ap, ◌∙◌, inl, inr, arith}
+use Rattle.std.proofs.Common.{◌≡◌, ℕ, ◌<◌, ◌↔◌, Bool, true, false, eqb, IsTrue, ◌&&◌, List, [], ◌∷◌, length, get_or, All, sym, refl, ◌∙◌, inl, inr, arith}
 use Rattle.std.proofs.lemmas.List.Elements.{All-nil, All-cons, All-head, All-tail, All-weaker}
 use Rattle.std.proofs.lemmas.List.Sums.{AllPass-from_list_all, list_all-from_AllPass}
 use Rattle.std.proofs.lemmas.Int.{ints}
 use Rattle.std.proofs.lemmas.Bool.Decides.{nat_tests}
-use Rattle.std.proofs.lemmas.Bool.{and_from, and_parts, both_ways, cases_Bool, cases_eq, cases_order, eq-eqb, eqb-true}
+use Rattle.std.proofs.lemmas.Bool.{and_from, and_parts, both_ways, cases_Bool, cases_eq, eq-eqb, eqb-true}
 use Rattle.sheet.specs.declared.row.Row.{Row}
 use Rattle.sheet.specs.declared.row.Row.TheVariants.{Span, Same, Unlike}
 use Rattle.congruence.specs.Classes.{class_numbers, class_of}
@@ -24,12 +24,13 @@ use Rattle.engine.specs.States.{Completion, State, active_rows}
 use Rattle.engine.specs.Terms.{seats_of}
 use Rattle.engine.proofs.Bounds.{bounds}
 use Rattle.engine.proofs.Completing.{blocks_extended}
+use Rattle.engine.proofs.EachPair.{either_way}
 use Rattle.engine.proofs.Following.{blocks_front}
 use Rattle.engine.proofs.Placing.{all_placed_pairs, placed_pair_at, placed_seat}
 use Rattle.table.specs.Apart.{blocks_apart, row_apart, rows_apart, two_apart}
 use Rattle.table.specs.Decisions.{classes_of, equal_pairs}
 use Rattle.table.specs.Equalities.{AlwaysEqual, Equates, KeptApart, RowKeptApart, SameHolds}
-use Rattle.table.proofs.Below.{active_below, rows_below, seat_below}
+use Rattle.table.proofs.Below.{active_below, seat_below}
 use Rattle.table.proofs.Equating.{by_choices, exact, pairs_equate}
 
 -- the test that the code makes
@@ -85,18 +86,18 @@ module _ (h : Holdings) where
   s = state_of h
 
   abbrev cl : List ℕ
-  cl = classes_of (state_of h)
+  cl = classes_of s
 
   abbrev rs : List ℕ
-  rs = ranks (state_of h).codes
+  rs = ranks s.codes
 
   abbrev ps : List Placed
-  ps = placed_seats (state_of h)
+  ps = placed_seats s
 
   -- placed seats of one class are of one block
-  one_block : blocks_apart (classes_of (state_of h)) (placed_seats (state_of h)) ≡ true → (p q : ℕ) → p < q → q < length (ranks (state_of h).codes)
-      → seat_numbers (state_of h).terms (class_numbers (classes_of (state_of h))) p ≡ seat_numbers (state_of h).terms (class_numbers (classes_of (state_of h))) q
-      → get_or (ranks (state_of h).codes) p 0 ≡ get_or (ranks (state_of h).codes) q 0
+  one_block : blocks_apart cl ps ≡ true → (p q : ℕ) → p < q → q < length rs
+      → seat_numbers s.terms (class_numbers cl) p ≡ seat_numbers s.terms (class_numbers cl) q
+      → get_or rs p 0 ≡ get_or rs q 0
   one_block apart p q b l e =
       let test : two_apart cl (placed_seat s.terms s.codes p, placed_seat s.terms s.codes q) ≡ true =
       placed_pair_at s.terms s.codes (bounds h).placed (λ x. two_apart cl x ≡ true) (AllPass-from_list_all (two_apart cl) (each_pair ps) apart) p q b l in
@@ -104,7 +105,7 @@ module _ (h : Holdings) where
       grind (arith, nat_tests)
 
   -- the class numbers are a choice, and go on to an arrangement
-  opened : is_consistent (state_of h) ≡ true → Completion TableAllowed (state_of h)
+  opened : is_consistent s ≡ true → Completion TableAllowed s
   opened c =
       let rows = active_rows s.rows in
       let v = class_numbers cl in
@@ -114,11 +115,7 @@ module _ (h : Holdings) where
       let e : Equates s.terms rows s.codes m v = pairs_equate h m v model.interprets model.equal in
       let blocks : EqualInBlocks rs (seat_numbers s.terms v) = record {
         same = e.blocks;
-        apart = λ p q lp lq t.
-            elim (cases_order p q) [
-              | inl x ↦ ap (λ k. get_or rs k 0) x
-              | inr y ↦ elim y [ inl x ↦ one_block test.1 p q x lq t | inr x ↦ sym (one_block test.1 q p x lp (sym t)) ]
-            ];
+        apart = either_way (λ p q. seat_numbers s.terms v p ≡ seat_numbers s.terms v q → get_or rs p 0 ≡ get_or rs q 0) (length rs) (λ p t. refl) (λ p q f t. sym (f (sym t))) (one_block test.1);
       } in
       let more = blocks_extended (length (seats_of s.terms)) s.codes (seat_numbers s.terms v) (bounds h).placed h.codes_valid blocks in
       record {
@@ -128,13 +125,13 @@ module _ (h : Holdings) where
       }
 
   -- a choice that fits an arrangement fits the codes that begin it
-  begun : Completion TableAllowed (state_of h) → TableAllowed (state_of h).terms (active_rows (state_of h).rows) (state_of h).codes
+  begun : Completion TableAllowed s → TableAllowed s.terms (active_rows s.rows) s.codes
   begun k =
       let a = k.allowed in
       record { tables = a.tables; numbers = a.numbers; interprets = a.interprets; hold = a.hold; blocks = blocks_front s.codes k.rest (seat_numbers s.terms a.numbers) a.blocks }
 
   -- it tells apart what is to be apart
-  kept_apart : TableAllowed (state_of h).terms (active_rows (state_of h).rows) (state_of h).codes → KeptApart (state_of h)
+  kept_apart : TableAllowed s.terms (active_rows s.rows) s.codes → KeptApart s
   kept_apart a =
       let rows = active_rows s.rows in
       let v = a.numbers in
@@ -146,11 +143,11 @@ module _ (h : Holdings) where
       }
 
   -- and what is apart is of different classes
-  one_class_equal : (i j : ℕ) → i < 32 → j < 32 → class_of (classes_of (state_of h)) i ≡ class_of (classes_of (state_of h)) j → AlwaysEqual (state_of h).terms (active_rows (state_of h).rows) (state_of h).codes i j
+  one_class_equal : (i j : ℕ) → i < 32 → j < 32 → class_of cl i ≡ class_of cl j → AlwaysEqual s.terms (active_rows s.rows) s.codes i j
   one_class_equal i j li lj c = by_choices h i j ((exact h).equal i j li lj c)
 
-  two_blocks : KeptApart (state_of h) → (p q : ℕ) → p < q → q < length (ranks (state_of h).codes)
-      → two_apart (classes_of (state_of h)) (placed_seat (state_of h).terms (state_of h).codes p, placed_seat (state_of h).terms (state_of h).codes q) ≡ true
+  two_blocks : KeptApart s → (p q : ℕ) → p < q → q < length rs
+      → two_apart cl (placed_seat s.terms s.codes p, placed_seat s.terms s.codes q) ≡ true
   two_blocks kept p q b l =
       let t = get_or (seats_of s.terms) p 0 in
       let u = get_or (seats_of s.terms) q 0 in
@@ -163,20 +160,20 @@ module _ (h : Holdings) where
         ]
       ]
 
-  apart_consistent : KeptApart (state_of h) → is_consistent (state_of h) ≡ true
+  apart_consistent : KeptApart s → is_consistent s ≡ true
   apart_consistent kept =
       let rows = active_rows s.rows in
       and_from (rows_apart cl rows) (blocks_apart cl ps)
-      (kept_rows cl (AlwaysEqual s.terms rows s.codes) 32 rows one_class_equal (active_below 32 s.rows (rows_below h)) kept.rows)
+      (kept_rows cl (AlwaysEqual s.terms rows s.codes) 32 rows one_class_equal (active_below h) kept.rows)
       (list_all-from_AllPass (two_apart cl) (each_pair ps) (all_placed_pairs s.terms s.codes (bounds h).placed (λ x. two_apart cl x ≡ true) (two_blocks kept)))
 
   -- what the code decides, in three ways
   pub record Decided (r : Bool) : Type 0 where
-    pub exact : IsTrue r ↔ Completion TableAllowed (state_of h)
-    pub fits : IsTrue r ↔ TableAllowed (state_of h).terms (active_rows (state_of h).rows) (state_of h).codes
-    pub apart : IsTrue r ↔ KeptApart (state_of h)
+    pub exact : IsTrue r ↔ Completion TableAllowed s
+    pub fits : IsTrue r ↔ TableAllowed s.terms (active_rows s.rows) s.codes
+    pub apart : IsTrue r ↔ KeptApart s
 
-  pub decided : (r : Bool) → r ≡ is_consistent (state_of h) → Decided r
+  pub decided : (r : Bool) → r ≡ is_consistent s → Decided r
   decided r e =
       record {
         exact = ((λ t. opened (sym e ∙ t)), (λ k. e ∙ apart_consistent (kept_apart (begun k))));

@@ -1,11 +1,11 @@
-use Rattle.std.proofs.Common.{◌<◌, arith}
+use Rattle.std.proofs.Common.{arith}
 use Rattle.std.proofs.lemmas.Grind.{common_steps}
-use Rattle.std.proofs.lemmas.List.Elements.{All-drop, All-take}
 use Rattle.table.proofs.Merging.{merge_all_append}
+use Rattle.table.proofs.Below.{others_below}
 use Rattle.table.proofs.equalities.merge_blocks.Goals as goal
 
 pub loop-rest-preserved : goal.loop-rest-preserved
 loop-rest-preserved c = (
   grind (arith, common_steps, merge_all_append),
-  All-take (λ p. p.term < 32) _ _ (All-drop (λ p. p.term < 32) 1 _ c.loop-rest.invariant.1),
+  others_below _ _ c.loop-rest.invariant.1,
 )
