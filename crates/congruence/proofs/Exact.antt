@@ -43,7 +43,7 @@ closure_sound n ts pairs l arguments within a b la lb e m v i q =
     sound_equal n v (closure n ts pairs) (closure_keeps_numbers n ts pairs l arguments within m v i q) a b la lb e
 
 -- a term whose form is not a name is one of the terms
-application_within : (ts : List Term) (i : ℕ) → (form_at ts i ≡ Name → ⊥) → i < length ts
+pub application_within : (ts : List Term) (i : ℕ) → (form_at ts i ≡ Name → ⊥) → i < length ts
 application_within ts i n = elim (cases_lt i (length ts)) [ inl l ↦ l | inr l ↦ absurd (n (ap (λ (t : Term). t.form) (get_or_past ts i zero_term l))) ]
 
 unary_congruent : (cl : List ℕ) (a x y : ℕ) → class_of cl x ≡ class_of cl y → is_congruent cl (One a x) (One a y) ≡ true

@@ -10,5 +10,6 @@ pub mod Ranks
 pub mod Seats
 pub mod Using
 pub mod Laws
+pub mod Moving
 pub mod Placing
 pub mod EachPair

@@ -1,11 +1,13 @@
 -- The seats of a list of terms.
-use Rattle.std.proofs.Common.{◌≡◌, ℕ, zero, suc, ◌+◌, ◌<◌, ◌≤◌, true, false, cond, List, [], ◌∷◌, ◌++◌, length, get_or, count_by, All, Contains, sym, refl, ap, ◌∙◌, subst, add-zero, arith}
-use Rattle.std.proofs.lemmas.List.Elements.{All-nil, All-cons}
+use Rattle.std.proofs.Common.{◌≡◌, ℕ, zero, suc, ◌+◌, ◌<◌, ◌≤◌, true, false, cond, List, [], ◌∷◌, ◌++◌, length, get_or, drop, count_by, All, ℤ, pos, Contains, sym, refl, ap, ◌∙◌, subst, add-zero, arith}
+use Rattle.std.proofs.lemmas.List.Elements.{All-nil, All-cons, All-weaker, All-get_or}
+use Rattle.std.proofs.lemmas.Grind.{get_or_after_one}
 use Rattle.std.proofs.lemmas.List.Sums.{sum_by-cons}
 use Rattle.std.proofs.lemmas.Bool.Decides.{nat_tests}
 use Rattle.std.proofs.lemmas.Bool.{cond_both}
 use Rattle.sheet.specs.declared.term.Term.{Term}
 use Rattle.sheet.specs.Terms.{is_dated}
+use Rattle.engine.specs.Dates.{date_at}
 use Rattle.engine.specs.Terms.{is_dated_at, dated_from, seats_of}
 use Rattle.engine.specs.Fitting.{all_terms_fit}
 
@@ -46,6 +48,13 @@ dated_within k (t ∷ ts) n l =
 pub seats_within : (ts : List Term) → All (λ s. s < length ts) (seats_of ts)
 seats_within ts = dated_within 0 ts (length ts) (omega arith)
 
+dated_after : (k : ℕ) (ts : List Term) → All (λ s. k ≤ s) (dated_from k ts)
+dated_after k [] = All-nil _
+dated_after k (t ∷ ts) =
+    let rest : List ℕ = dated_from (suc k) ts in
+    let later : All (λ s. k ≤ s) rest = All-weaker (λ s. suc k ≤ s) (λ s. k ≤ s) (λ s l. omega arith) rest (dated_after (suc k) ts) in
+    cond_both (is_dated t.kind) (k ∷ rest) rest (All (λ s. k ≤ s)) (λ _. All-cons (λ s. k ≤ s) k rest (omega arith) later) (λ _. later)
+
 dated_has : (k : ℕ) (ts : List Term) (i : ℕ) → i < length ts → is_dated_at ts i ≡ true → Contains (dated_from k ts) (k + i)
 dated_has k [] i l d = absurd (omega arith)
 dated_has k (t ∷ ts) zero l d = subst (λ b. Contains (cond b (k ∷ dated_from (suc k) ts) (dated_from (suc k) ts)) (k + 0)) (sym d) (0, omega arith, sym (add-zero k))
@@ -62,3 +71,35 @@ seats_have ts i l d = let e : 0 + i ≡ i = omega arith in subst (Contains (seat
 pub seat_of_zero : (ts : List Term) → all_terms_fit ts ≡ true → (0 < length (seats_of ts)) × (get_or (seats_of ts) 0 0 ≡ 0)
 seat_of_zero [] f = cc
 seat_of_zero (t ∷ ts) f = (grind (arith, nat_tests), grind (arith, nat_tests))
+
+-- the date at a seat is that of its term
+date_in_head : (s : ℕ) (ss : List ℕ) (dates : List ℤ) → date_at (s ∷ ss) dates s ≡ get_or dates 0 (pos 0)
+date_in_head s ss [] = refl
+date_in_head s ss (d ∷ dates) = grind (arith, nat_tests)
+
+date_in_tail : (s : ℕ) (ss : List ℕ) (dates : List ℤ) (i : ℕ) → s < i → date_at (s ∷ ss) dates i ≡ date_at ss (drop 1 dates) i
+date_in_tail s [] [] i l = refl
+date_in_tail s (r ∷ ss) [] i l = refl
+date_in_tail s ss (d ∷ dates) i l = grind (arith, nat_tests)
+
+abbrev DatesAtSeats : List ℕ → List ℤ → Type 0
+DatesAtSeats ss dates = (p : ℕ) → p < length ss → date_at ss dates (get_or ss p 0) ≡ get_or dates p (pos 0)
+
+dates_at_seats_next : (s : ℕ) (ss : List ℕ) (dates : List ℤ) → All (λ r. suc s ≤ r) ss → DatesAtSeats ss (drop 1 dates) → DatesAtSeats (s ∷ ss) dates
+dates_at_seats_next s ss dates after rest zero l = date_in_head s ss dates
+dates_at_seats_next s ss dates after rest (suc q) l =
+    let low : q < length ss = omega arith in
+    let later = All-get_or (λ r. suc s ≤ r) ss q 0 low after in
+    let next : 1 + q ≡ suc q = omega arith in
+    date_in_tail s ss dates (get_or ss q 0) (omega arith) ∙ rest q low ∙ get_or_after_one dates q (pos 0) ∙ ap (λ k. get_or dates k (pos 0)) next
+
+dates_at_seats : (k : ℕ) (ts : List Term) (dates : List ℤ) → DatesAtSeats (dated_from k ts) dates
+dates_at_seats k [] dates = λ p l. absurd (omega arith)
+dates_at_seats k (t ∷ ts) dates =
+    let rest : List ℕ = dated_from (suc k) ts in
+    cond_both (is_dated t.kind) (k ∷ rest) rest (λ ss. DatesAtSeats ss dates)
+    (λ _. dates_at_seats_next k rest dates (dated_after (suc k) ts) (dates_at_seats (suc k) ts (drop 1 dates)))
+    (λ _. dates_at_seats (suc k) ts dates)
+
+pub date_at_seat : (ts : List Term) (dates : List ℤ) (p : ℕ) → p < length (seats_of ts) → date_at (seats_of ts) dates (get_or (seats_of ts) p 0) ≡ get_or dates p (pos 0)
+date_at_seat ts dates = dates_at_seats 0 ts dates

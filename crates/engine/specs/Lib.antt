@@ -5,6 +5,7 @@ pub mod Refusals
 pub mod Meaning
 pub mod Arrangements
 pub mod Rules
+pub mod Parts
 pub mod States
 pub mod Calls
 pub mod Dates

@@ -8,6 +8,7 @@ use Rattle.sheet.specs.declared.row.Row.{Row}
 use Rattle.sheet.specs.declared.term.Term.{Term}
 use Rattle.engine.specs.Arrangements.{Arrangement, EqualInBlocks, InOrder, ranks}
 use Rattle.engine.specs.Dates.{GreatestDates}
+use Rattle.engine.specs.Parts.{InstantsMet, LevelsMet}
 use Rattle.engine.specs.Rules.{SpanAllowed, TableAllowed, seat_numbers}
 use Rattle.engine.specs.States.{Completion, State, active_rows}
 use Rattle.engine.specs.Terms.{seats_of}
@@ -18,7 +19,7 @@ use Rattle.parts.specs.declared.diagnosis.Findings.{Findings}
 use Rattle.parts.specs.declared.seat.Seat.{Seat}
 use Rattle.parts.specs.Diagnoses.{Diagnosed, InstantsDiagnosed}
 use Rattle.parts.specs.Noting.{FieldsNoted}
-use Rattle.parts.specs.Told.{InstantsMet, LevelsMet, Told, span_letter, table_letter}
+use Rattle.parts.specs.Told.{Told, span_letter, table_letter}
 use Rattle.parts.proofs.Deciding.{noted_by_each, whole_once}
 use Rattle.parts.proofs.Walking.{sound}
 
@@ -32,7 +33,7 @@ module _ (s : State) (bare : s.codes ≡ []) where
         allowed = subst (λ cs. rule s.terms (active_rows s.rows) (cs ++ rest)) (sym bare) allowed;
       }
 
-  spans_met : Completion SpanAllowed s ↔ InstantsMet s
+  spans_met : Completion SpanAllowed s ↔ InstantsMet (active_rows s.rows)
   spans_met = (
     (λ k. (k.allowed.0, k.allowed.1.hold)),
     (λ (v, hold).
@@ -42,7 +43,7 @@ module _ (s : State) (bare : s.codes ≡ []) where
         completed SpanAllowed r.0 r.1 (v, record { hold = hold; ordered = r.2 })),
   )
 
-  equalities_met : Completion TableAllowed s ↔ LevelsMet s
+  equalities_met : Completion TableAllowed s ↔ LevelsMet s.terms (active_rows s.rows)
   equalities_met = (
     (λ k. record { tables = k.allowed.tables; numbers = k.allowed.numbers; interprets = k.allowed.interprets; hold = k.allowed.hold }),
     (λ m.
@@ -57,7 +58,7 @@ module _ (sheet : List ℕ) where
   record InstantsTold (seats : Option (ArrayVec Seat)) : Type 0 where
     pub noted : State
     pub walk : FieldsNoted span_letter sheet noted []
-    pub met : IsSome seats ↔ InstantsMet noted
+    pub met : IsSome seats ↔ InstantsMet (active_rows noted.rows)
 
   instants_told : (t : State) (seats : Option (ArrayVec Seat)) → InstantsDiagnosed SpanAllowed counts_spans GreatestDates span_letter sheet t (Ok seats) → InstantsTold seats
   instants_told t (Some seats) d = record { noted = d.noted; walk = d.walk; met = ((λ _. (d.first.allowed.0, d.first.allowed.1.hold)), (λ _. refl)) }
@@ -73,5 +74,5 @@ module _ (sheet : List ℕ) where
         noted = i.noted;
         walk = i.walk;
         instants = i.met;
-        levels = subst (λ (s : State). IsTrue f.levels ↔ LevelsMet s) one ((λ b. levels.0 (p.1.answered.0 b)), (λ m. p.1.answered.1 (levels.1 m)));
+        levels = subst (λ (s : State). IsTrue f.levels ↔ LevelsMet s.terms (active_rows s.rows)) one ((λ b. levels.0 (p.1.answered.0 b)), (λ m. p.1.answered.1 (levels.1 m)));
       }

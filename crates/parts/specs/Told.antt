@@ -1,9 +1,9 @@
 -- What the program tells of a sheet, in the words of what sheets mean.
-use Rattle.std.specs.Prelude.{◌↔◌, ℕ, IsSome, IsTrue, List, [], Ok, Err, Result, All}
+use Rattle.std.specs.Prelude.{◌↔◌, ℕ, IsSome, IsTrue, List, [], Ok, Err, Result}
 use Rattle.sheet.specs.declared.refusal.Refusal.{Refusal}
 use Rattle.engine.specs.Dates.{GreatestDates}
-use Rattle.engine.specs.Meaning.{Numbers, Tables, Interprets}
-use Rattle.engine.specs.Rules.{EqualityHolds, SpanAllowed, SpanHolds, TableAllowed}
+use Rattle.engine.specs.Parts.{InstantsMet, LevelsMet}
+use Rattle.engine.specs.Rules.{SpanAllowed, TableAllowed}
 use Rattle.engine.specs.States.{State, active_rows}
 use Rattle.span.specs.Dating.{counts_spans}
 use Rattle.parts.specs.declared.diagnosis.Findings.{Findings}
@@ -17,23 +17,12 @@ span_letter = 83
 abbrev pub table_letter : ℕ
 table_letter = 84
 
--- some numbers make every span true. That zero's is 0 is not asked: spans see only differences, so that it can be subtracted from all
-abbrev pub InstantsMet : State → Type 0
-InstantsMet s = (v : Numbers) × All (SpanHolds v) (active_rows s.rows)
-
--- some numbers and tables make every same and unlike row true
-pub record LevelsMet (s : State) : Type 0 where
-  pub tables : Tables
-  pub numbers : Numbers
-  pub interprets : Interprets tables s.terms numbers
-  pub hold : All (EqualityHolds numbers) (active_rows s.rows)
-
 -- the whole sheet is noted, and of its terms and rows it is told whether the instants alone can be met, and the levels alone
 pub record ToldOf (sheet : List ℕ) (f : Findings) : Type 0 where
   pub noted : State
   pub walk : FieldsNoted span_letter sheet noted []
-  pub instants : IsSome f.instants ↔ InstantsMet noted
-  pub levels : IsTrue f.levels ↔ LevelsMet noted
+  pub instants : IsSome f.instants ↔ InstantsMet (active_rows noted.rows)
+  pub levels : IsTrue f.levels ↔ LevelsMet noted.terms (active_rows noted.rows)
 
 -- or it is told which field is refused, and why
 abbrev pub Told : List ℕ → Result Findings Refusal → Type 0
