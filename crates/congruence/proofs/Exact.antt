@@ -1,8 +1,7 @@
 -- Closure is exact: terms of one class are equal in every choice of numbers and tables, and the classes themselves are such a choice.
 use Rattle.std.proofs.Common.{◌≡◌, ℕ, ◌<◌, ◌≤◌, true, List, length, pos, All, sym, refl, ap, ◌∙◌, inl, inr, arith}
-use Rattle.std.proofs.lemmas.Bool.{cases_lt, cases_order}
+use Rattle.std.proofs.lemmas.Bool.{cases_order}
 use Rattle.std.proofs.lemmas.Bool.Decides.{nat_tests}
-use Rattle.std.proofs.lemmas.List.{get_or_past}
 use Rattle.std.proofs.lemmas.List.Elements.{All-weaker}
 use Rattle.std.proofs.lemmas.List.FromFn.{length-range_with_len}
 use Rattle.sheet.specs.declared.term.Form.{Form}
@@ -15,6 +14,7 @@ use Rattle.congruence.specs.Entries.{tables_of, entries_of}
 use Rattle.congruence.specs.Classes.{class_of, singletons, merge, merge_all, class_numbers}
 use Rattle.congruence.specs.Closure.{is_congruent, closure}
 use Rattle.congruence.specs.Claims.{Equal, EqualBy, ArgumentsBelow, PairsBelow, ClosureIsExact}
+use Rattle.congruence.proofs.Arguments.{application_within}
 use Rattle.congruence.proofs.Interpreting.{congruence_suffices, congruence_is_needed}
 use Rattle.congruence.proofs.Merging.{NamedByLeast, Sound, sound_equal, merge_keeps, merge_sound, merge_all_joins, merge_all_length, merge_all_named, merge_all_sound, singletons_named, singletons_sound}
 use Rattle.congruence.proofs.Closing.{Closed, rounds_keep, rounds_length, rounds_named, rounds_suffice}
@@ -41,10 +41,6 @@ pub closure_sound : (n : ℕ) (ts : List Term) (pairs : List (ℕ × ℕ)) → l
     → (a b : ℕ) → a < n → b < n → class_of (closure n ts pairs) a ≡ class_of (closure n ts pairs) b → EqualBy ts pairs a b
 closure_sound n ts pairs l arguments within a b la lb e m v i q =
     sound_equal n v (closure n ts pairs) (closure_keeps_numbers n ts pairs l arguments within m v i q) a b la lb e
-
--- a term whose form is not a name is one of the terms
-pub application_within : (ts : List Term) (i : ℕ) → (form_at ts i ≡ Name → ⊥) → i < length ts
-application_within ts i n = elim (cases_lt i (length ts)) [ inl l ↦ l | inr l ↦ absurd (n (ap (λ (t : Term). t.form) (get_or_past ts i zero_term l))) ]
 
 unary_congruent : (cl : List ℕ) (a x y : ℕ) → class_of cl x ≡ class_of cl y → is_congruent cl (One a x) (One a y) ≡ true
 unary_congruent cl a x y e = grind (arith, nat_tests)

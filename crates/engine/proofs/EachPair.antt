@@ -1,9 +1,9 @@
 -- What holds of each pair of a list's elements holds at each two places, and the other way round; and how many pairs there are.
-use Rattle.std.specs.List.{AllPairs}
+use Rattle.std.specs.List.{AllByRecursion, AllPairs}
 use Rattle.std.proofs.Common.{◌≡◌, ℕ, zero, suc, ◌+◌, ◌*◌, ◌<◌, List, [], ◌∷◌, length, get_or, All, refl, subst, inl, inr, arith}
 use Rattle.std.proofs.lemmas.Bool.{cases_order}
 use Rattle.std.proofs.lemmas.List.{get_or-map, length-append, length-map}
-use Rattle.std.proofs.lemmas.List.Elements.{All-nil, All-append, All-map, All-from_get_or}
+use Rattle.std.proofs.lemmas.List.Elements.{All-nil, All-append, All-map, All-from_get_or, All-from_recursion}
 use Rattle.engine.specs.EachPair.{each_pair, with_each}
 use Rattle.engine.proofs.Lists.{all_front, all_back}
 
@@ -23,6 +23,10 @@ module _ {X : Type 0} (P : X × X → Type 0) where
       All-append P (with_each x xs) (each_pair xs)
       (All-map P (λ y. (x, y)) xs (All-from_get_or (λ y. P (x, y)) xs d (λ k l. f 0 (suc k) (omega arith) (omega arith))))
       (all_each_pair xs d (λ j k b l. f (suc j) (suc k) (omega arith) (omega arith)))
+
+-- in a list that is given, what holds of each pair computes
+pub each_two : {X : Type 0} (R : X → X → Type 0) (xs : List X) → AllByRecursion (λ p. R p.0 p.1) (each_pair xs) → AllPairs R xs
+each_two R xs h = each_pair_at (λ p. R p.0 p.1) xs (All-from_recursion (λ p. R p.0 p.1) (each_pair xs) h)
 
 -- what holds of each place with itself, and of two either way round if it does one way, holds of any two of n places if it does of an earlier and a later one
 pub either_way : (P : ℕ → ℕ → Type 0) (n : ℕ) → ((j : ℕ) → P j j) → ((j k : ℕ) → P j k → P k j) → ((j k : ℕ) → j < k → k < n → P j k) → (j k : ℕ) → j < n → k < n → P j k

@@ -64,6 +64,9 @@ pub record RowPasses (ts : List Term) (n : ℕ) (r : Row) : Type 0 where
 pub row_passes : (ts : List Term) (n : ℕ) (r : Row) → row_refusal ts n r ≡ None → RowPasses ts n r
 row_passes ts n r e = record { room = grind (arith, nat_tests); fits = grind (arith, nat_tests) }
 
+pub terms_of_row : (ts : List Term) (r : Row) → row_fits ts r ≡ true → (left_of r < length ts) × (right_of r < length ts)
+terms_of_row ts r fits = (grind (arith, nat_tests), grind (arith, nat_tests))
+
 pub rows_push : (ts : List Term) (ms : List Noted) (m : Noted) → all_rows_fit ts ms ≡ true → row_fits ts m.row ≡ true → all_rows_fit ts (ms ++ m ∷ []) ≡ true
 rows_push ts ms m f e = and_push (all_rows_fit ts) (λ (n : Noted). row_fits ts n.row) refl (λ _ _. refl) ms m ∙ and_from (all_rows_fit ts ms) (row_fits ts m.row) f e
 

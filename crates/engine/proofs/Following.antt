@@ -72,6 +72,17 @@ order_blocks rs x o =
           ];
     }
 
+-- numbers that agree at the seats are in one order, and numbers that grow with the ranks are in theirs
+pub in_order_by : (rs : List ℕ) (x y : ℕ → ℤ) → ((p : ℕ) → p < length rs → x p ≡ y p) → InOrder rs y → InOrder rs x
+in_order_by rs x y agree o =
+    record {
+      same = λ p q lp lq e. agree p lp ∙ o.same p q lp lq e ∙ sym (agree q lq);
+      less = λ p q lp lq e. z_left (x p) (y p) (x q) (agree p lp) (z_right (y p) (y q) (x q) (o.less p q lp lq e) (sym (agree q lq)));
+    }
+
+pub ranks_in_order : (rs : List ℕ) (f : ℕ → ℤ) → ((r s : ℕ) → r < s → f r <ℤ f s) → InOrder rs (λ p. f (get_or rs p 0))
+ranks_in_order rs f grows = record { same = λ p q lp lq e. ap f e; less = λ p q lp lq e. grows (get_or rs p 0) (get_or rs q 0) e }
+
 -- the code 2k + 1 is that of block k, and a code tells where the new seat lies to it
 meets : {c r s : ℕ} → Becomes c r s → c ≡ 2 * r + 1 → s ≡ c / 2
 meets (up a l e) h = omega arith
@@ -308,7 +319,7 @@ front_extended n front x l v o =
 pub one_arrangement : (n : ℕ) (cs ds : List ℕ) (x : ℕ → ℤ) → Arrangement n cs → Arrangement n ds → InOrder (ranks cs) x → InOrder (ranks ds) x → cs ≡ ds
 one_arrangement n cs ds x a b o q = same_codes 0 [] cs ds x no_blocks (a.full ∙ sym b.full) a.valid b.valid o q
 
-no_order : (x : ℕ → ℤ) → InOrder (ranks []) x
+pub no_order : (x : ℕ → ℤ) → InOrder (ranks []) x
 no_order x = record { same = λ p q lp lq e. absurd (omega arith); less = λ p q lp lq e. absurd (omega arith) }
 
 pub every_choice_is_followed : EveryChoiceIsFollowed

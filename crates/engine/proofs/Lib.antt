@@ -11,5 +11,6 @@ pub mod Seats
 pub mod Using
 pub mod Laws
 pub mod Moving
+pub mod Allowing
 pub mod Placing
 pub mod EachPair

@@ -37,14 +37,18 @@ ranks_from rs (c ∷ cs) = ranks_from (ranks_with rs c) cs
 abbrev pub ranks : List ℕ → List ℕ
 ranks codes = ranks_from [] codes
 
+-- each block has one number, by the numbers x of the seats, whose ranks are rs
+abbrev pub OneInEachBlock : List ℕ → (ℕ → ℤ) → Type 0
+OneInEachBlock rs x = (p q : ℕ) → p < length rs → q < length rs → slice_index rs p ≡ slice_index rs q → x p ≡ x q
+
 -- the numbers x, one for each seat, follow the ranks rs: equal in a block, and smaller in an earlier block
 pub record InOrder (rs : List ℕ) (x : ℕ → ℤ) : Type 0 where
-  pub same : (p q : ℕ) → p < length rs → q < length rs → slice_index rs p ≡ slice_index rs q → x p ≡ x q
+  pub same : OneInEachBlock rs x
   pub less : (p q : ℕ) → p < length rs → q < length rs → slice_index rs p < slice_index rs q → x p <ℤ x q
 
 -- the numbers x are equal exactly for seats of one block; the order of the blocks is not asked
 pub record EqualInBlocks (rs : List ℕ) (x : ℕ → ℤ) : Type 0 where
-  pub same : (p q : ℕ) → p < length rs → q < length rs → slice_index rs p ≡ slice_index rs q → x p ≡ x q
+  pub same : OneInEachBlock rs x
   pub apart : (p q : ℕ) → p < length rs → q < length rs → x p ≡ x q → slice_index rs p ≡ slice_index rs q
 
 -- lexicographic order: at the first place where the codes differ the earlier arrangement has the smaller one

@@ -19,9 +19,9 @@ date_at [] dates i = pos 0
 date_at (s ∷ ss) [] i = pos 0
 date_at (s ∷ ss) (d ∷ dates) i = if s == i then d else date_at ss dates i
 
--- the row holds of the dates, if it is of a kind that counts and stands on dated terms alone
-abbrev pub CountedHolds : (RowKind → Bool) → List Term → List ℤ → Row → Type 0
-CountedHolds counts ts dates r = (counts (kind_of r) && on_dated ts r) ≡ true → Holds (date_at (seats_of ts) dates) r
+-- the row holds of the numbers, if it is of a kind that counts and stands on dated terms alone
+abbrev pub CountedHolds : (RowKind → Bool) → List Term → Numbers → Row → Type 0
+CountedHolds counts ts v r = (counts (kind_of r) && on_dated ts r) ≡ true → Holds v r
 
 -- dates from −7,000,000 to 7,000,000, one a seat, in the order of the arrangement, zero's being 0, that make the counted rows true
 pub record RightDates (counts : RowKind → Bool) (s : State) (dates : List ℤ) : Type 0 where
@@ -29,7 +29,7 @@ pub record RightDates (counts : RowKind → Bool) (s : State) (dates : List ℤ)
   pub within : (p : ℕ) → p < length dates → (neg_ℤ date_limit ≤ℤ slice_index_or dates p (pos 0)) × (slice_index_or dates p (pos 0) ≤ℤ date_limit)
   pub zero_first : slice_index_or dates 0 (pos 0) ≡ pos 0
   pub ordered : InOrder (ranks s.codes) (λ p. slice_index_or dates p (pos 0))
-  pub hold : All (CountedHolds counts s.terms dates) (active_rows s.rows)
+  pub hold : All (CountedHolds counts s.terms (date_at (seats_of s.terms) dates)) (active_rows s.rows)
 
 module _ (rule : List Term → List Row → List ℕ → Type 0) (s : State) where
   -- every seat is placed and open says yes: these are the dates. `picks` says which ones the engine gives

@@ -6,6 +6,7 @@ pub mod Meaning
 pub mod Arrangements
 pub mod Rules
 pub mod Parts
+pub mod Equalities
 pub mod States
 pub mod Calls
 pub mod Dates

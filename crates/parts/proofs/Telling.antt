@@ -12,8 +12,8 @@ use Rattle.engine.specs.Parts.{InstantsMet, LevelsMet}
 use Rattle.engine.specs.Rules.{SpanAllowed, TableAllowed, seat_numbers}
 use Rattle.engine.specs.States.{Completion, State, active_rows}
 use Rattle.engine.specs.Terms.{seats_of}
-use Rattle.engine.proofs.Completing.{blocks_extended}
-use Rattle.engine.proofs.Following.{front_extended}
+use Rattle.engine.proofs.Allowing.{levels_allowed}
+use Rattle.engine.proofs.Following.{front_extended, no_order}
 use Rattle.span.specs.Dating.{counts_spans}
 use Rattle.parts.specs.declared.diagnosis.Findings.{Findings}
 use Rattle.parts.specs.declared.seat.Seat.{Seat}
@@ -38,8 +38,7 @@ module _ (s : State) (bare : s.codes ≡ []) where
     (λ k. (k.allowed.0, k.allowed.1.hold)),
     (λ (v, hold).
         let x : ℕ → ℤ = seat_numbers s.terms v in
-        let none : InOrder (ranks []) x = record { same = λ p q lp lq e. absurd (omega arith); less = λ p q lp lq e. absurd (omega arith) } in
-        let r = front_extended (length (seats_of s.terms)) [] x (omega arith) refl none in
+        let r = front_extended (length (seats_of s.terms)) [] x (omega arith) refl (no_order x) in
         completed SpanAllowed r.0 r.1 (v, record { hold = hold; ordered = r.2 })),
   )
 
@@ -48,9 +47,8 @@ module _ (s : State) (bare : s.codes ≡ []) where
     (λ k. record { tables = k.allowed.tables; numbers = k.allowed.numbers; interprets = k.allowed.interprets; hold = k.allowed.hold }),
     (λ m.
         let x : ℕ → ℤ = seat_numbers s.terms m.numbers in
-        let none : EqualInBlocks (ranks []) x = record { same = λ p q lp lq e. absurd (omega arith); apart = λ p q lp lq e. absurd (omega arith) } in
-        let r = blocks_extended (length (seats_of s.terms)) [] x (omega arith) refl none in
-        completed TableAllowed r.0 r.1 (record { tables = m.tables; numbers = m.numbers; interprets = m.interprets; hold = m.hold; blocks = r.2 })),
+        let r = front_extended (length (seats_of s.terms)) [] x (omega arith) refl (no_order x) in
+        completed TableAllowed r.0 r.1 (levels_allowed s.terms (active_rows s.rows) r.0 m r.2)),
   )
 
 module _ (sheet : List ℕ) where

@@ -121,7 +121,7 @@ module _ (h : Holdings) (stable : becomes_stable_of (state_of h) ≡ true) where
   }
 
   -- a counted row holds of the dates
-  rows_dated : (rows : List Row) → All (EdgeFits ss) (row_edges rows) → All (SpanHolds (at d)) rows → All (CountedHolds counts_spans s.terms (from_zero d ss)) rows
+  rows_dated : (rows : List Row) → All (EdgeFits ss) (row_edges rows) → All (SpanHolds (at d)) rows → All (CountedHolds counts_spans s.terms (date_at ss (from_zero d ss))) rows
   rows_dated [] f a = All-nil _
   rows_dated (Span i j c ∷ rows) f a =
       let fit = All-head (EdgeFits ss) _ _ f in
@@ -129,9 +129,9 @@ module _ (h : Holdings) (stable : becomes_stable_of (state_of h) ≡ true) where
       let y = date_of (λ t. at d t -ℤ at d 0) ss j fit.1 in
       let k : (at d i -ℤ at d j) ≤ℤ c = All-head (SpanHolds (at d)) _ _ a in
       let r : (date_at ss (from_zero d ss) i -ℤ date_at ss (from_zero d ss) j) ≤ℤ c = omega (arith, ints) in
-      All-cons (CountedHolds counts_spans s.terms (from_zero d ss)) _ _ (λ _. r) (rows_dated rows (All-tail (EdgeFits ss) _ _ f) (All-tail (SpanHolds (at d)) _ _ a))
-  rows_dated (Same i j ∷ rows) f a = All-cons (CountedHolds counts_spans s.terms (from_zero d ss)) _ _ (λ e. absurd cc) (rows_dated rows f (All-tail (SpanHolds (at d)) _ _ a))
-  rows_dated (Unlike i j ∷ rows) f a = All-cons (CountedHolds counts_spans s.terms (from_zero d ss)) _ _ (λ e. absurd cc) (rows_dated rows f (All-tail (SpanHolds (at d)) _ _ a))
+      All-cons (CountedHolds counts_spans s.terms (date_at ss (from_zero d ss))) _ _ (λ _. r) (rows_dated rows (All-tail (EdgeFits ss) _ _ f) (All-tail (SpanHolds (at d)) _ _ a))
+  rows_dated (Same i j ∷ rows) f a = All-cons (CountedHolds counts_spans s.terms (date_at ss (from_zero d ss))) _ _ (λ e. absurd cc) (rows_dated rows f (All-tail (SpanHolds (at d)) _ _ a))
+  rows_dated (Unlike i j ∷ rows) f a = All-cons (CountedHolds counts_spans s.terms (date_at ss (from_zero d ss))) _ _ (λ e. absurd cc) (rows_dated rows f (All-tail (SpanHolds (at d)) _ _ a))
 
   pub right : RightDates counts_spans s (from_zero d ss)
   right =

@@ -21,7 +21,8 @@ use Rattle.engine.proofs.EachPair.{either_way}
 use Rattle.engine.proofs.Lists.{all_front, all_back}
 use Rattle.engine.proofs.Placing.{all_placed_pairs, placed_pair_at}
 use Rattle.table.specs.Decisions.{classes_of, equal_pairs}
-use Rattle.table.specs.Equalities.{AlwaysEqual, EqualityClasses, Equates}
+use Rattle.engine.specs.Equalities.{AlwaysEqual, Equates}
+use Rattle.table.specs.Equalities.{EqualityClasses}
 use Rattle.table.specs.Pairs.{block_pairs, same_pairs}
 use Rattle.table.proofs.Below.{arguments_below_all, pairs_below}
 use Rattle.table.proofs.Pairs.{IfInOneBlock, all_equated, equated_at, pairs_give_rows, rows_give_pairs}

@@ -29,7 +29,8 @@ use Rattle.engine.proofs.Following.{blocks_front}
 use Rattle.engine.proofs.Placing.{all_placed_pairs, placed_pair_at, placed_seat}
 use Rattle.table.specs.Apart.{blocks_apart, row_apart, rows_apart, two_apart}
 use Rattle.table.specs.Decisions.{classes_of, equal_pairs}
-use Rattle.table.specs.Equalities.{AlwaysEqual, Equates, KeptApart, RowKeptApart, SameHolds}
+use Rattle.engine.specs.Equalities.{AlwaysEqual, Equates, SameHolds}
+use Rattle.table.specs.Equalities.{KeptApart, RowKeptApart}
 use Rattle.table.proofs.Below.{active_below, seat_below}
 use Rattle.table.proofs.Equating.{by_choices, exact, pairs_equate}
 

@@ -1,6 +1,5 @@
-pub mod Equalities
+pub mod Serving
 pub mod Together
-pub mod Dating
 pub mod Combining
 pub mod Checking
 pub mod Between

@@ -1,5 +1,5 @@
 pub mod Accepted
 pub mod Combining
 pub mod Models
-pub mod Shortcuts
+pub mod Unsound
 pub mod Sheets

@@ -1,49 +1,86 @@
--- A model put together: numbers v that the table rule found, and numbers x for the instants from elsewhere.
-use Rattle.std.specs.Prelude.{◌≡◌, ◌↔◌, ℕ, ◌<◌, Bool, true, ◌&&◌, List, length, ℤ, ◌-ℤ◌, All}
+-- Models: numbers that come with tables and make rows true. They are put together from the numbers that the table rule found and from numbers for
+-- the instants, whatever engine these come from.
+use Rattle.std.specs.Prelude.{◌≡◌, ◌↔◌, ℕ, ◌<◌, Bool, true, List, length, ℤ, pos, ◌-ℤ◌, All}
 use Rattle.sheet.specs.declared.row.Row.{Row}
 use Rattle.sheet.specs.declared.term.Term.{Term}
-use Rattle.engine.specs.Dates.{date_at}
-use Rattle.engine.specs.Meaning.{Numbers, Tables, Interprets, Holds}
-use Rattle.engine.specs.Rows.{RowKind, kind_of, on_dated}
-use Rattle.engine.specs.Rules.{EqualityHolds}
+use Rattle.engine.specs.Arrangements.{Arrangement, InOrder, ranks}
+use Rattle.engine.specs.Dates.{CountedHolds, RightDates, date_at}
+use Rattle.engine.specs.Equalities.{AlwaysEqual}
+use Rattle.engine.specs.Meaning.{Numbers, Holds}
+use Rattle.engine.specs.Rows.{RowKind, on_dated}
+use Rattle.engine.specs.Rules.{EqualityHolds, TableAllowed, seat_numbers}
 use Rattle.engine.specs.States.{State, active_rows}
 use Rattle.engine.specs.Terms.{is_dated_at, seats_of}
 use Rattle.congruence.specs.Claims.{Interpreted}
+use Rattle.theory.specs.Accepted.{Accepted}
 
--- v and w are equal at just the same of the first n terms
+-- two of the first n terms have one number by w exactly where they are equal
+abbrev pub EqualJustWhere : ℕ → (ℕ → ℕ → Type 0) → Numbers → Type 0
+EqualJustWhere n equal w = (i j : ℕ) → i < n → j < n → equal i j ↔ (w i ≡ w j)
+
+-- and exactly where they have one by v
 abbrev pub SameEqualities : ℕ → Numbers → Numbers → Type 0
-SameEqualities n v w = (i j : ℕ) → i < n → j < n → (v i ≡ v j) ↔ (w i ≡ w j)
+SameEqualities n v w = EqualJustWhere n (λ i j. v i ≡ v j) w
 
--- the numbers come with tables, and make every same and unlike row true
-pub record EqualityModel (ts : List Term) (rows : List Row) (numbers : Numbers) : Type 0 where
-  pub interpreted : Interpreted ts numbers
-  pub hold : All (EqualityHolds numbers) rows
+-- the numbers make every same and unlike row true, and come with tables, which may be any list of the entries that the applications need
+pub record EqualityModel (ts : List Term) (rows : List Row) (w : Numbers) : Type 0 where
+  pub interpreted : Interpreted ts w
+  pub hold : All (EqualityHolds w) rows
 
--- if the row is on instants and x makes it true, then so do the numbers
+-- Only equalities matter to tables, and to same and unlike rows: where the table rule allows codes, each choice of numbers is such a model by which two terms
+-- are equal just where they are by the numbers found
+abbrev pub EqualitiesSuffice : Type 0
+EqualitiesSuffice = (ts : List Term) (rows : List Row) (codes : List ℕ) (w : Numbers) → Accepted ts rows → (found : TableAllowed ts rows codes)
+    → w 0 ≡ pos 0 → SameEqualities (length ts) found.numbers w → EqualityModel ts rows w
+
+-- and so is each by which two terms are equal just where the same rows and the blocks make them so
+abbrev pub ClassesSuffice : Type 0
+ClassesSuffice = (ts : List Term) (rows : List Row) (codes : List ℕ) (w : Numbers) → Accepted ts rows → TableAllowed ts rows codes
+    → w 0 ≡ pos 0 → EqualJustWhere (length ts) (AlwaysEqual ts rows codes) w → EqualityModel ts rows w
+
+-- each instant has its number by x, counted from zero's: zero has to have 0
+abbrev pub AtInstants : List Term → Numbers → Numbers → Type 0
+AtInstants ts x w = (i : ℕ) → i < length ts → is_dated_at ts i ≡ true → w i ≡ x i -ℤ x 0
+
+-- if the row is on instants and x makes it true, then so does w
 abbrev pub StillHolds : List Term → Numbers → Numbers → Row → Type 0
-StillHolds ts x numbers r = on_dated ts r ≡ true → Holds x r → Holds numbers r
+StillHolds ts x w r = on_dated ts r ≡ true → Holds x r → Holds w r
 
--- each instant has its number by x, counted from zero's; terms are equal where they are by v; all same and unlike rows are true, and so is each
--- row on instants that x makes true
+-- Rows on instants ask only for the numbers of the instants
+abbrev pub InstantsSuffice : Type 0
+InstantsSuffice = (ts : List Term) (rows : List Row) (x w : Numbers) → Accepted ts rows → AtInstants ts x w → All (StillHolds ts x w) rows
+
+-- A model put together of v and x
 pub record PutTogether (ts : List Term) (rows : List Row) (v x : Numbers) : Type 0 where
   pub numbers : Numbers
-  pub tables : Tables
-  pub interprets : Interprets tables ts numbers
-  pub at_instants : (i : ℕ) → i < length ts → is_dated_at ts i ≡ true → numbers i ≡ x i -ℤ x 0
+  pub at_instants : AtInstants ts x numbers
   pub equal : SameEqualities (length ts) v numbers
-  pub equalities : All (EqualityHolds numbers) rows
+  pub model : EqualityModel ts rows numbers
   pub on_instants : All (StillHolds ts x numbers) rows
 
--- the row is true, if it is of a kind that counts and on instants alone
-abbrev pub CountedIsTrue : (RowKind → Bool) → List Term → Numbers → Row → Type 0
-CountedIsTrue counts ts numbers r = (counts (kind_of r) && on_dated ts r) ≡ true → Holds numbers r
+-- there is one for each arrangement that the table rule allows and any numbers for the instants in its order
+abbrev pub ModelsArePutTogether : Type 0
+ModelsArePutTogether = (ts : List Term) (rows : List Row) (codes : List ℕ) (x : Numbers) → Accepted ts rows → Arrangement (length (seats_of ts)) codes
+    → (found : TableAllowed ts rows codes) → InOrder (ranks codes) (seat_numbers ts x) → PutTogether ts rows found.numbers x
 
--- and with dates for the instants
+-- With dates. Each instant has its date
+abbrev pub AtDates : List Term → List ℤ → Numbers → Type 0
+AtDates ts dates w = (i : ℕ) → i < length ts → is_dated_at ts i ≡ true → w i ≡ date_at (seats_of ts) dates i
+
+-- so that every row is true that the engine counts which gave the dates
+abbrev pub DatesSuffice : Type 0
+DatesSuffice = (counts : RowKind → Bool) (s : State) (dates : List ℤ) (w : Numbers) → Accepted s.terms (active_rows s.rows)
+    → RightDates counts s dates → AtDates s.terms dates w → All (CountedHolds counts s.terms w) (active_rows s.rows)
+
 pub record DatedModel (counts : RowKind → Bool) (s : State) (v : Numbers) (dates : List ℤ) : Type 0 where
   pub numbers : Numbers
-  pub tables : Tables
-  pub interprets : Interprets tables s.terms numbers
-  pub dated : (i : ℕ) → i < length s.terms → is_dated_at s.terms i ≡ true → numbers i ≡ date_at (seats_of s.terms) dates i
+  pub dated : AtDates s.terms dates numbers
   pub equal : SameEqualities (length s.terms) v numbers
-  pub equalities : All (EqualityHolds numbers) (active_rows s.rows)
-  pub counted : All (CountedIsTrue counts s.terms numbers) (active_rows s.rows)
+  pub model : EqualityModel s.terms (active_rows s.rows) numbers
+  pub counted : All (CountedHolds counts s.terms numbers) (active_rows s.rows)
+
+-- and there is a model with the dates of each engine that dates, whichever kinds of row it counts
+abbrev pub ModelsAreDated : Type 0
+ModelsAreDated = (counts : RowKind → Bool) (s : State) (dates : List ℤ) → Accepted s.terms (active_rows s.rows)
+    → Arrangement (length (seats_of s.terms)) s.codes → (found : TableAllowed s.terms (active_rows s.rows) s.codes)
+    → RightDates counts s dates → DatedModel counts s found.numbers dates

@@ -1,16 +1,21 @@
--- Three sheets.
-use Rattle.std.specs.Prelude.{List, [], ◌∷◌, ℤ, pos, neg_ℤ}
+-- Sheets on which the theorems are tried.
+use Rattle.std.specs.Prelude.{ℕ, ◌-◌, Bool, true, false, not, List, [], ◌∷◌, length, map, filter, ℤ, pos, neg_ℤ, slice_index_or}
 use Rattle.sheet.specs.declared.row.Row.{Row}
-use Rattle.sheet.specs.declared.row.Row.TheVariants.{Span, Unlike}
+use Rattle.sheet.specs.declared.row.Row.TheVariants.{Span, Same, Unlike}
 use Rattle.sheet.specs.declared.term.Form.TheVariants.{Name, One}
 use Rattle.sheet.specs.declared.term.Kind.TheVariants.{Dated, Level}
 use Rattle.sheet.specs.declared.term.Term.{Term}
+use Rattle.engine.specs.declared.noted.Noted.{Noted}
+use Rattle.engine.specs.Calls.{rows_with_mark}
+use Rattle.engine.specs.Meaning.{Numbers}
+use Rattle.engine.specs.Rows.{RowKind}
+use Rattle.engine.specs.States.{State}
 use Rattle.engine.specs.Terms.{zero_term}
 
 abbrev pub instant : Term
 instant = record { kind = Dated; form = Name }
 
--- zero, the instants x, a and b, and the levels A(x), A(a) and A(b), A having the letter 65
+-- zero, the instants x, a and b, and the levels A(x), A(a) and A(b). The table's letter is 65
 abbrev pub level_terms : List Term
 level_terms = zero_term ∷ instant ∷ instant ∷ instant
     ∷ record { kind = Level; form = One 65 1 }
@@ -25,6 +30,40 @@ from_4_to end = Span 2 0 (pos 4) ∷ Span 0 2 (neg_ℤ (pos 4))
     ∷ Span 1 0 end ∷ Span 0 1 (neg_ℤ (pos 4))
     ∷ Unlike 4 5 ∷ Unlike 4 6
     ∷ []
+
+-- the rows of the instants alone, and those of the levels
+abbrev pub is_span : Row → Bool
+is_span (Span i j c) = true
+is_span (Same i j) = false
+is_span (Unlike i j) = false
+
+abbrev pub spans_of : List Row → List Row
+spans_of rows = filter is_span rows
+
+abbrev pub equalities_of : List Row → List Row
+equalities_of rows = filter (λ r. not (is_span r)) rows
+
+-- the codes that place x between a and b
+abbrev pub x_between : List ℕ
+x_between = 0 ∷ 2 ∷ 2 ∷ 6 ∷ []
+
+-- the rows as an engine holds them, all active; and with the last one muted
+abbrev pub noted_rows : List Row → List Noted
+noted_rows rows = map (λ r. record { row = r; active = true }) rows
+
+abbrev pub without_the_last : List Row → List Noted
+without_the_last rows = rows_with_mark (length rows - 1) false (noted_rows rows)
+
+-- an engine that counts rows of each kind, where they are on instants, and what it holds
+abbrev pub counts_all : RowKind → Bool
+counts_all k = true
+
+abbrev pub holding : List Row → List ℕ → State
+holding rows codes = record { terms = level_terms; rows = noted_rows rows; codes = codes }
+
+-- a number for each term, as a list
+abbrev pub numbers_in : List ℤ → Numbers
+numbers_in xs i = slice_index_or xs i (pos 0)
 
 -- zero and the instants x, y and z
 abbrev pub three_terms : List Term

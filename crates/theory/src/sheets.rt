@@ -1,37 +1,76 @@
-// Three sheets, which show what the theorems ask for and that it can be met.
-ghost use Rattle.std.specs.Prelude.{[], ◌∷◌, pos};
-ghost use Rattle.engine.specs.Meaning.{Satisfiable};
-ghost use Rattle.engine.specs.Parts.{InstantsMet, LevelsMet};
+// What the theorems say of some sheets, which shows that what they ask for can be met.
+ghost use Rattle.std.specs.Prelude.{All, pos};
+ghost use Rattle.engine.specs.Arrangements.{Arrangement};
+ghost use Rattle.engine.specs.Dates.{RightDates};
+ghost use Rattle.engine.specs.Meaning.{Holds, Satisfiable};
 ghost use Rattle.engine.specs.Rules.{SpanAllowed, TableAllowed};
-ghost use Rattle.theory.specs.Accepted.{Accepted};
+ghost use Rattle.engine.specs.States.{active_rows};
+ghost use Rattle.theory.specs.Accepted.{Accepted, NotedAccepted};
 ghost use Rattle.theory.specs.Combining.{AllowedByBoth, Possible};
-ghost use Rattle.theory.specs.Sheets.{from_4_to, in_two_ticks, level_terms, three_terms};
-ghost use Rattle.theory.specs.Shortcuts.{NoEqualityImplied, SpanAllowedInBlocks};
+ghost use Rattle.theory.specs.Models.{DatedModel, EqualityModel};
+ghost use Rattle.theory.specs.Sheets.{counts_all, equalities_of, from_4_to, holding, in_two_ticks, level_terms, numbers_in, spans_of, three_terms, without_the_last, x_between};
+ghost use Rattle.theory.specs.Unsound.{NoEqualityImplied, SpanAllowedInBlocks};
 
-// An instant from 4 to 6, and there a level unlike those at 4 and at 6. The arrangement with the instant between the two is
-// allowed by both rules, and so some numbers and tables make every row true.
-pub fn an_instant_between_4_and_6()
+// An instant from 4 to 6, and there a level unlike those at 4 and at 6. Both rules allow the arrangement with the instant between
+// the two, whose codes are these; and so some numbers and tables make every row true.
+pub fn arrange_from_4_to_6() -> [u8; 4]
     ensures accepted { Accepted level_terms (from_4_to (pos 6)) }
-    ensures allowed { AllowedByBoth TableAllowed SpanAllowed level_terms (from_4_to (pos 6)) (0 ∷ 2 ∷ 2 ∷ 6 ∷ []) }
+    ensures allowed { AllowedByBoth TableAllowed SpanAllowed level_terms (from_4_to (pos 6)) result }
     ensures met { Satisfiable level_terms (from_4_to (pos 6)) }
-{}
+{
+    [0, 2, 2, 6]
+}
 
-// The same from 4 to 5, with no tick between. Its instants can be met, and so can its levels, and neither part makes two
-// instants equal; and yet no numbers and tables make every row true. So no arrangement is allowed by both rules.
-pub fn no_instant_between_4_and_5()
+// Dates for that arrangement, with which a model is put together.
+pub fn date_from_4_to_6() -> [i64; 4]
+    ensures right { RightDates counts_all (holding (from_4_to (pos 6)) x_between) result }
+    ensures model { (found : TableAllowed level_terms (from_4_to (pos 6)) x_between) ×
+        DatedModel counts_all (holding (from_4_to (pos 6)) x_between) found.numbers result }
+{
+    [0, 5, 4, 6]
+}
+
+// Numbers for all terms, with those dates and the least numbers past them for the levels. They come with tables, since no two terms
+// are always equal, and make every row true.
+pub fn number_from_4_to_6() -> [i64; 7]
+    ensures model { EqualityModel level_terms (from_4_to (pos 6)) (numbers_in result) }
+    ensures rows { All (Holds (numbers_in result)) (from_4_to (pos 6)) }
+{
+    [0, 5, 4, 6, 7, 8, 9]
+}
+
+// The same from 4 to 5, with no tick between. The instants alone are satisfiable, and so are the levels alone; each rule
+// allows an arrangement, whose codes are these; and neither part makes two instants equal. Yet no numbers and tables make
+// every row true, and so no arrangement is allowed by both rules.
+pub fn arrange_parts_from_4_to_5() -> ([u8; 4], [u8; 4])
     ensures accepted { Accepted level_terms (from_4_to (pos 5)) }
-    ensures instants { InstantsMet (from_4_to (pos 5)) }
-    ensures levels { LevelsMet level_terms (from_4_to (pos 5)) }
+    ensures instants { Satisfiable level_terms (spans_of (from_4_to (pos 5))) }
+    ensures levels { Satisfiable level_terms (equalities_of (from_4_to (pos 5))) }
+    ensures by_table { Arrangement 4 result.0 × TableAllowed level_terms (from_4_to (pos 5)) result.0 }
+    ensures by_spans { Arrangement 4 result.1 × SpanAllowed level_terms (from_4_to (pos 5)) result.1 }
     ensures nothing_implied { NoEqualityImplied level_terms (from_4_to (pos 5)) }
     ensures unmet { Satisfiable level_terms (from_4_to (pos 5)) → ⊥ }
     ensures impossible { Possible TableAllowed SpanAllowed level_terms (from_4_to (pos 5)) → ⊥ }
-{}
+{
+    ([0, 2, 2, 4], [0, 2, 3, 4])
+}
 
-// Three instants in two ticks, no two of them equal. If the spans are told only which instants are equal, both rules allow an arrangement;
-// and yet no numbers make every row true.
-pub fn three_instants_in_two_ticks()
+// With the last row of that sheet muted, both rules allow the arrangement with these codes, and so the other rows are satisfiable.
+pub fn arrange_without_the_last() -> [u8; 4]
+    ensures accepted { NotedAccepted level_terms (without_the_last (from_4_to (pos 5))) }
+    ensures allowed { AllowedByBoth TableAllowed SpanAllowed level_terms (active_rows (without_the_last (from_4_to (pos 5)))) result }
+    ensures met { Satisfiable level_terms (active_rows (without_the_last (from_4_to (pos 5)))) }
+{
+    [0, 2, 2, 5]
+}
+
+// Three instants in two ticks, no two of them equal. If the spans are told only which instants are equal, both rules allow the arrangement
+// with these codes; and yet no numbers make every row true.
+pub fn arrange_three_without_order() -> [u8; 4]
     ensures accepted { Accepted three_terms in_two_ticks }
-    ensures without_order { Possible TableAllowed SpanAllowedInBlocks three_terms in_two_ticks }
+    ensures without_order { AllowedByBoth TableAllowed SpanAllowedInBlocks three_terms in_two_ticks result }
     ensures unmet { Satisfiable three_terms in_two_ticks → ⊥ }
     ensures impossible { Possible TableAllowed SpanAllowed three_terms in_two_ticks → ⊥ }
-{}
+{
+    [0, 2, 4, 6]
+}

@@ -1,9 +1,8 @@
-use Rattle.theory.proofs.Dating.{dated_model}
-use Rattle.theory.proofs.Together.{put_together}
+use Rattle.theory.proofs.Together.{dated, put_together}
 use Rattle.theory.proofs.models.models_are_put_together.Goals as goal
 
 pub returns-clause-numbers : goal.returns-clause-numbers
 returns-clause-numbers c = put_together
 
 pub returns-clause-dates : goal.returns-clause-dates
-returns-clause-dates c = dated_model
+returns-clause-dates c = dated
