@@ -1,5 +1,5 @@
 -- Applications and their arguments are among the terms, and numbers are congruent where their equalities there are.
-use Rattle.std.proofs.Common.{◌≡◌, ◌↔◌, ℕ, ◌<◌, true, List, length, sym, ap, ◌∙◌, subst, inl, inr, arith}
+use Rattle.std.proofs.Common.{◌≡◌, ℕ, ◌<◌, true, List, length, sym, ap, ◌∙◌, subst, inl, inr, arith}
 use Rattle.std.proofs.lemmas.Bool.{cases_lt}
 use Rattle.std.proofs.lemmas.Bool.Decides.{nat_tests}
 use Rattle.std.proofs.lemmas.List.{get_or_past}
@@ -9,7 +9,7 @@ use Rattle.sheet.specs.declared.term.Term.{Term}
 use Rattle.engine.specs.Meaning.{Numbers, form_at}
 use Rattle.engine.specs.Terms.{arguments_below, zero_term}
 use Rattle.congruence.specs.Claims.{ArgumentsBelow}
-use Rattle.congruence.specs.Congruence.{Congruent, CongruentRelation}
+use Rattle.congruence.specs.Congruence.{Congruent, CongruentRelation, EqualExactlyWhere}
 
 -- a term whose form is not a name is one of the terms
 pub application_within : (ts : List Term) (i : ℕ) → (form_at ts i ≡ Name → ⊥) → i < length ts
@@ -27,9 +27,9 @@ module _ (n : ℕ) (ts : List Term) (within : ArgumentsBelow n ts) where
   binary_within : (i a x y : ℕ) → form_at ts i ≡ Two a x y → (i < length ts) × (x < n) × (y < n)
   binary_within i a x y e = let (l, b) = arguments_within i (Two a x y) e (λ h. cc) in (l, grind (arith, nat_tests), grind (arith, nat_tests))
 
--- numbers that are equal at two terms just where a congruent relation holds of them
+-- numbers that are equal exactly where a congruent relation holds respect congruence
 pub congruent_by : (ts : List Term) (equal : ℕ → ℕ → Type 0) (w : Numbers) → ArgumentsBelow (length ts) ts
-    → ((i j : ℕ) → i < length ts → j < length ts → equal i j ↔ (w i ≡ w j)) → CongruentRelation ts equal → Congruent ts w
+    → EqualExactlyWhere (length ts) equal w → CongruentRelation ts equal → Congruent ts w
 congruent_by ts equal w within same c =
     record {
       unary = λ i j a x y p q e.

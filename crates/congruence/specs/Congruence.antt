@@ -1,5 +1,5 @@
 -- Congruence: two applications of one table are equal where their arguments are.
-use Rattle.std.specs.Prelude.{◌≡◌, ℕ, List}
+use Rattle.std.specs.Prelude.{◌≡◌, ◌↔◌, ℕ, ◌<◌, List}
 use Rattle.sheet.specs.declared.term.Form.TheVariants.{One, Two}
 use Rattle.sheet.specs.declared.term.Term.{Term}
 use Rattle.engine.specs.Meaning.{Numbers, form_at}
@@ -12,3 +12,7 @@ pub record CongruentRelation (ts : List Term) (equal : ℕ → ℕ → Type 0) :
 -- numbers that respect congruence
 abbrev pub Congruent : List Term → Numbers → Type 0
 Congruent ts v = CongruentRelation ts (λ i j. v i ≡ v j)
+
+-- two of the first n terms have one number exactly where the relation holds of them
+abbrev pub EqualExactlyWhere : ℕ → (ℕ → ℕ → Type 0) → Numbers → Type 0
+EqualExactlyWhere n equal v = (i j : ℕ) → i < n → j < n → equal i j ↔ (v i ≡ v j)

@@ -1,5 +1,5 @@
--- Numbers x that are equal at just the seats where y are can be moved to these, and all other whole numbers with them, so
--- that none meet which were apart.
+-- Two choices of numbers for the seats, x and y, both equal exactly within blocks: the numbers x can be moved to the numbers y, and all
+-- other whole numbers past these, so that what was apart stays apart.
 use Rattle.std.proofs.Common.{◌≡◌, ℕ, zero, suc, ◌+◌, ◌*◌, ◌<◌, ◌⊎◌, List, length, max, ℤ, ◌<ℤ◌, pos, negsuc, int_eq, sym, refl, ap, ◌∙◌, inl, inr, arith}
 use Rattle.std.proofs.lemmas.Int.{ints}
 use Rattle.std.proofs.lemmas.Bool.{cases_Bool, cases_eq}

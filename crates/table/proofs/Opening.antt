@@ -22,6 +22,7 @@ use Rattle.engine.specs.Rows.{terms_below}
 use Rattle.engine.specs.Rules.{EqualityHolds, TableAllowed, seat_numbers}
 use Rattle.engine.specs.States.{Completion, State, active_rows}
 use Rattle.engine.specs.Terms.{seats_of}
+use Rattle.engine.proofs.Allowing.{allowed_equates}
 use Rattle.engine.proofs.Bounds.{bounds}
 use Rattle.engine.proofs.Completing.{blocks_extended}
 use Rattle.engine.proofs.EachPair.{either_way}
@@ -71,12 +72,7 @@ kept_rows cl equal n (r ∷ rows) f b a =
           | inr m ↦ grind arith
         ]
 
--- what holds of the same and unlike rows
-same_holds : (v : Numbers) (r : Row) → EqualityHolds v r → SameHolds v r
-same_holds v (Span i j c) h = tt
-same_holds v (Same i j) h = h
-same_holds v (Unlike i j) h = tt
-
+-- what holds of the same and unlike rows keeps the terms of unlike rows apart
 unlike_kept : (v : Numbers) (equal : ℕ → ℕ → Type 0) (r : Row) → ((i j : ℕ) → equal i j → v i ≡ v j) → EqualityHolds v r → RowKeptApart equal r
 unlike_kept v equal (Span i j c) f h = tt
 unlike_kept v equal (Same i j) f h = tt
@@ -136,7 +132,7 @@ module _ (h : Holdings) where
   kept_apart a =
       let rows = active_rows s.rows in
       let v = a.numbers in
-      let e : Equates s.terms rows s.codes a.tables v = record { interprets = a.interprets; hold = All-weaker (EqualityHolds v) (SameHolds v) (same_holds v) rows a.hold; blocks = a.blocks.same } in
+      let e : Equates s.terms rows s.codes a.tables v = allowed_equates s.terms rows s.codes a in
       let equal : (i j : ℕ) → AlwaysEqual s.terms rows s.codes i j → v i ≡ v j = λ i j always. always a.tables v e in
       record {
         rows = All-weaker (EqualityHolds v) (RowKeptApart (AlwaysEqual s.terms rows s.codes)) (λ r. unlike_kept v (AlwaysEqual s.terms rows s.codes) r equal) rows a.hold;

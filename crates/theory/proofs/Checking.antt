@@ -1,18 +1,16 @@
 -- To check numbers and tables on a given sheet.
-use Rattle.std.specs.List.{AllByRecursion, AllZip}
-use Rattle.std.proofs.Common.{◌≡◌, ◌≢◌, ℕ, zero, suc, ◌<◌, List, [], ◌∷◌, length, get_or, ℤ, pos, ◌+ℤ◌, ◌<ℤ◌, sym, refl, subst, arith}
-use Rattle.std.proofs.lemmas.List.Elements.{AllZip-get_or, length_all_zip}
+use Rattle.std.specs.List.{AllByRecursion, AllZip, range_with_len}
+use Rattle.std.proofs.Common.{◌≡◌, ℕ, zero, suc, ◌<◌, List, [], ◌∷◌, get_or, ℤ, pos, ◌+ℤ◌, ◌<ℤ◌, ◌∙◌, subst, zero-add, arith}
+use Rattle.std.proofs.lemmas.List.Elements.{All-from_recursion, AllZip-get_or, length_all_zip}
+use Rattle.std.proofs.lemmas.List.FromFn.{get_or-range_with_len, length-range_with_len}
 use Rattle.sheet.specs.declared.term.Form.{Form}
 use Rattle.sheet.specs.declared.term.Form.TheVariants.{Name, One, Two}
 use Rattle.sheet.specs.declared.term.Term.{Term}
 use Rattle.engine.specs.Arrangements.{InOrder}
-use Rattle.engine.specs.EachPair.{each_pair}
 use Rattle.engine.specs.Meaning.{Interprets, Numbers, Tables, form_at}
 use Rattle.engine.specs.Rules.{seat_numbers}
 use Rattle.engine.specs.Terms.{seats_of}
-use Rattle.engine.proofs.EachPair.{each_two, either_way}
 use Rattle.engine.proofs.Following.{in_order_by, ranks_in_order}
-use Rattle.theory.specs.Sheets.{numbers_in}
 
 -- what the tables ask of the number n of a term of this form, where v has the numbers of its arguments
 abbrev pub Answered : Tables → Numbers → ℤ → Form → Type 0
@@ -50,9 +48,8 @@ in_order f grows ts rs v h =
     in_order_by rs (seat_numbers ts v) (λ p. f (get_or rs p 0)) (λ p l. AllZip-get_or (λ i r. v i ≡ f r) (seats_of ts) rs p 0 0 h (omega arith))
     (ranks_in_order rs f grows)
 
--- numbers of which no two are equal tell the terms apart
-pub tells_apart : (xs : List ℤ) → AllByRecursion (λ p. p.0 ≢ p.1) (each_pair xs) → (i j : ℕ) → i < length xs → j < length xs
-    → numbers_in xs i ≡ numbers_in xs j → i ≡ j
-tells_apart xs h =
-    either_way (λ i j. numbers_in xs i ≡ numbers_in xs j → i ≡ j) (length xs) (λ i e. refl) (λ i j f e. sym (f (sym e)))
-    (λ i j b l e. absurd (each_two (λ (x y : ℤ). x ≢ y) xs h i j (pos 0) b l e))
+-- what holds of each number below one that is given computes
+pub each_below : (P : ℕ → Type 0) (n : ℕ) → AllByRecursion P (range_with_len 0 n) → (i : ℕ) → i < n → P i
+each_below P n h i l =
+    let all = All-from_recursion P (range_with_len 0 n) h in
+    subst P (get_or-range_with_len 0 n i 0 l ∙ zero-add i) (all i 0 (omega (arith, length-range_with_len 0 n)))

@@ -36,10 +36,10 @@ equality_holds v (Unlike i j) h = h
 spans_on_dated : (ts : List Term) (i j : ℕ) (c : ℤ) → row_fits ts (Span i j c) ≡ true → on_dated ts (Span i j c) ≡ true
 spans_on_dated ts i j c fits = grind (arith, nat_tests)
 
-row_holds : (ts : List Term) (x w : Numbers) (r : Row) → row_fits ts r ≡ true → EqualityHolds w r → StillHolds ts x w r → SpanHolds x r → Holds w r
-row_holds ts x w (Span i j c) fits e still h = still (spans_on_dated ts i j c fits) h
-row_holds ts x w (Same i j) fits e still h = e
-row_holds ts x w (Unlike i j) fits e still h = e
+each_holds : (ts : List Term) (x w : Numbers) (r : Row) → row_fits ts r ≡ true → EqualityHolds w r → StillHolds ts x w r → SpanHolds x r → Holds w r
+each_holds ts x w (Span i j c) fits e still h = still (spans_on_dated ts i j c fits) h
+each_holds ts x w (Same i j) fits e still h = e
+each_holds ts x w (Unlike i j) fits e still h = e
 
 module _ (ts : List Term) (rows : List Row) where
   possible_satisfied : Accepted ts rows → Possible TableAllowed SpanAllowed ts rows → Satisfiable ts rows
@@ -51,11 +51,17 @@ module _ (ts : List Term) (rows : List Row) where
         tables = tables_of (entries_of ts w);
         numbers = w;
         interprets = p.model.interpreted.first_fit (entries_of ts w) p.model.interpreted.entries;
-        hold = λ k d l. row_holds ts x w (get_or rows k d) (accepted.each_row k d l) (p.model.hold k d l) (p.on_instants k d l) (fits.hold k d l);
+        hold = λ k d l. each_holds ts x w (get_or rows k d) (accepted.each_row k d l) (p.model.hold k d l) (p.on_instants k d l) (fits.hold k d l);
       }
 
   abbrev levels_of : Satisfiable ts rows → LevelsMet ts rows
-  levels_of s = record { tables = s.tables; numbers = s.numbers; interprets = s.interprets; hold = λ k d l. equality_holds s.numbers (get_or rows k d) (s.hold k d l) }
+  levels_of s =
+      record {
+        tables = s.tables;
+        numbers = s.numbers;
+        interprets = s.interprets;
+        hold = λ k d l. equality_holds s.numbers (get_or rows k d) (s.hold k d l);
+      }
 
   abbrev instants_of : Satisfiable ts rows → InstantsMet rows
   instants_of s = (s.numbers, (λ k d l. span_holds s.numbers (get_or rows k d) (s.hold k d l)))

@@ -1,7 +1,9 @@
-pub mod Serving
+pub mod Sufficing
 pub mod Together
 pub mod Combining
 pub mod Checking
+pub mod LevelSheets
 pub mod Between
+pub mod WithoutTheLast
 pub mod TwoTicks
 pub mod Refuting

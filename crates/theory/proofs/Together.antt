@@ -4,19 +4,19 @@ use Rattle.std.proofs.lemmas.Int.{ints}
 use Rattle.std.proofs.lemmas.List.{get_or_default}
 use Rattle.sheet.specs.declared.row.Row.{Row}
 use Rattle.sheet.specs.declared.term.Term.{Term}
-use Rattle.engine.specs.Arrangements.{EqualInBlocks, InOrder, ranks}
+use Rattle.engine.specs.Arrangements.{EqualInBlocks, ranks}
 use Rattle.engine.specs.Dates.{date_at}
 use Rattle.engine.specs.Meaning.{Numbers}
 use Rattle.engine.specs.Rules.{TableAllowed, seat_numbers}
 use Rattle.engine.specs.States.{active_rows}
 use Rattle.engine.specs.Terms.{seats_of}
-use Rattle.engine.proofs.Following.{in_order_by, order_blocks}
+use Rattle.engine.proofs.Following.{order_blocks}
 use Rattle.engine.proofs.Moving.{Moved, all_moved}
 use Rattle.engine.proofs.Ranks.{length_ranks}
-use Rattle.engine.proofs.Seats.{date_at_seat, seat_of_zero, seats_have}
+use Rattle.engine.proofs.Seats.{seat_of_zero, seats_have}
 use Rattle.theory.specs.Accepted.{Accepted}
 use Rattle.theory.specs.Models.{AtInstants, ModelsAreDated, ModelsArePutTogether, PutTogether, SameEqualities}
-use Rattle.theory.proofs.Serving.{counted_by_dates, dates_at_instants, equalities_suffice, instants_suffice}
+use Rattle.theory.proofs.Sufficing.{dates_at_instants, dates_in_order, dates_suffice, equalities_suffice, instants_suffice}
 
 -- numbers counted from zero's are equal where they were
 from_zero_equal : (x y z : ℤ) → x -ℤ z ≡ y -ℤ z → x ≡ y
@@ -66,11 +66,7 @@ put_together ts rows codes x accepted arrangement found ordered =
 -- and so with dates
 pub dated : ModelsAreDated
 dated counts s dates accepted arrangement found right =
-    let ts = s.terms in
-    let x : Numbers = λ i. date_at (seats_of ts) dates i in
-    let agree : (p : ℕ) → p < length (ranks s.codes) → seat_numbers ts x p ≡ get_or dates p (pos 0) =
-    λ p l. date_at_seat ts dates p (let n = length_ranks s.codes in let m = arrangement.full in omega arith) in
-    let ordered : InOrder (ranks s.codes) (seat_numbers ts x) = in_order_by (ranks s.codes) (seat_numbers ts x) (λ p. get_or dates p (pos 0)) agree right.ordered in
-    let p = put_together ts (active_rows s.rows) s.codes x accepted arrangement found ordered in
-    let at = (dates_at_instants counts s dates p.numbers accepted right).1 p.at_instants in
-    record { numbers = p.numbers; dated = at; equal = p.equal; model = p.model; counted = counted_by_dates counts s dates p.numbers accepted right at }
+    let x : Numbers = λ i. date_at (seats_of s.terms) dates i in
+    let p = put_together s.terms (active_rows s.rows) s.codes x accepted arrangement found (dates_in_order counts s dates right arrangement.full found) in
+    let at = (dates_at_instants counts s dates right p.numbers accepted).1 p.at_instants in
+    record { numbers = p.numbers; dated = at; equal = p.equal; model = p.model; counted = dates_suffice counts s dates p.numbers accepted right at }

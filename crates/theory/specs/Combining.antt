@@ -20,10 +20,16 @@ module _ (first second : List Term → List Row → List ℕ → Type 0) where
   abbrev pub Possible : List Term → List Row → Type 0
   Possible ts rows = (codes : List ℕ) × AllowedByBoth ts rows codes
 
-  -- of accepted terms and rows, some arrangement is allowed by both rules exactly when some numbers and tables make every row true
+  -- the rules are sound together: where some arrangement is allowed by both, some numbers and tables make every row true, whichever terms and
+  -- rows were accepted
+  abbrev pub SoundTogether : Type 0
+  SoundTogether = (ts : List Term) (rows : List Row) → Accepted ts rows → Possible ts rows → Satisfiable ts rows
+
+  -- and exact: that is so exactly where some arrangement is allowed by both
   abbrev pub ExactTogether : Type 0
   ExactTogether = (ts : List Term) (rows : List Row) → Accepted ts rows → Possible ts rows ↔ Satisfiable ts rows
 
-  -- and so of the rows that are chosen of a list by its marks
+  -- the same of the rows that are chosen of a list by its marks
   abbrev pub ExactForChosen : Type 0
-  ExactForChosen = (ts : List Term) (noted : List Noted) → NotedAccepted ts noted → Possible ts (active_rows noted) ↔ Satisfiable ts (active_rows noted)
+  ExactForChosen = (ts : List Term) (noted : List Noted) → NotedAccepted ts noted
+      → Possible ts (active_rows noted) ↔ Satisfiable ts (active_rows noted)

@@ -54,10 +54,11 @@ noted_rows rows = map (λ r. record { row = r; active = true }) rows
 abbrev pub without_the_last : List Row → List Noted
 without_the_last rows = rows_with_mark (length rows - 1) false (noted_rows rows)
 
--- an engine that counts rows of each kind, where they are on instants, and what it holds
+-- an engine may count rows of each kind, where they are on instants
 abbrev pub counts_all : RowKind → Bool
 counts_all k = true
 
+-- what an engine holds
 abbrev pub holding : List Row → List ℕ → State
 holding rows codes = record { terms = level_terms; rows = noted_rows rows; codes = codes }
 

@@ -12,8 +12,8 @@ ghost use Rattle.theory.specs.Sheets.{counts_all, equalities_of, from_4_to, hold
 ghost use Rattle.theory.specs.Unsound.{NoEqualityImplied, SpanAllowedInBlocks};
 
 // An instant from 4 to 6, and there a level unlike those at 4 and at 6. Both rules allow the arrangement with the instant between
-// the two, whose codes are these; and so some numbers and tables make every row true.
-pub fn arrange_from_4_to_6() -> [u8; 4]
+// the two, whose codes these are; and so some numbers and tables make every row true.
+pub fn codes_from_4_to_6() -> [u8; 4]
     ensures accepted { Accepted level_terms (from_4_to (pos 6)) }
     ensures allowed { AllowedByBoth TableAllowed SpanAllowed level_terms (from_4_to (pos 6)) result }
     ensures met { Satisfiable level_terms (from_4_to (pos 6)) }
@@ -22,7 +22,7 @@ pub fn arrange_from_4_to_6() -> [u8; 4]
 }
 
 // Dates for that arrangement, with which a model is put together.
-pub fn date_from_4_to_6() -> [i64; 4]
+pub fn dates_from_4_to_6() -> [i64; 4]
     ensures right { RightDates counts_all (holding (from_4_to (pos 6)) x_between) result }
     ensures model { (found : TableAllowed level_terms (from_4_to (pos 6)) x_between) ×
         DatedModel counts_all (holding (from_4_to (pos 6)) x_between) found.numbers result }
@@ -30,19 +30,10 @@ pub fn date_from_4_to_6() -> [i64; 4]
     [0, 5, 4, 6]
 }
 
-// Numbers for all terms, with those dates and the least numbers past them for the levels. They come with tables, since no two terms
-// are always equal, and make every row true.
-pub fn number_from_4_to_6() -> [i64; 7]
-    ensures model { EqualityModel level_terms (from_4_to (pos 6)) (numbers_in result) }
-    ensures rows { All (Holds (numbers_in result)) (from_4_to (pos 6)) }
-{
-    [0, 5, 4, 6, 7, 8, 9]
-}
-
 // The same from 4 to 5, with no tick between. The instants alone are satisfiable, and so are the levels alone; each rule
-// allows an arrangement, whose codes are these; and neither part makes two instants equal. Yet no numbers and tables make
+// allows an arrangement, whose codes these are; and neither part makes two instants equal. Yet no numbers and tables make
 // every row true, and so no arrangement is allowed by both rules.
-pub fn arrange_parts_from_4_to_5() -> ([u8; 4], [u8; 4])
+pub fn codes_of_parts_from_4_to_5() -> ([u8; 4], [u8; 4])
     ensures accepted { Accepted level_terms (from_4_to (pos 5)) }
     ensures instants { Satisfiable level_terms (spans_of (from_4_to (pos 5))) }
     ensures levels { Satisfiable level_terms (equalities_of (from_4_to (pos 5))) }
@@ -56,7 +47,7 @@ pub fn arrange_parts_from_4_to_5() -> ([u8; 4], [u8; 4])
 }
 
 // With the last row of that sheet muted, both rules allow the arrangement with these codes, and so the other rows are satisfiable.
-pub fn arrange_without_the_last() -> [u8; 4]
+pub fn codes_without_the_last() -> [u8; 4]
     ensures accepted { NotedAccepted level_terms (without_the_last (from_4_to (pos 5))) }
     ensures allowed { AllowedByBoth TableAllowed SpanAllowed level_terms (active_rows (without_the_last (from_4_to (pos 5)))) result }
     ensures met { Satisfiable level_terms (active_rows (without_the_last (from_4_to (pos 5)))) }
@@ -64,9 +55,18 @@ pub fn arrange_without_the_last() -> [u8; 4]
     [0, 2, 2, 5]
 }
 
-// Three instants in two ticks, no two of them equal. If the spans are told only which instants are equal, both rules allow the arrangement
-// with these codes; and yet no numbers make every row true.
-pub fn arrange_three_without_order() -> [u8; 4]
+// Numbers for its terms: x and b share a block and have one number, so that their levels are always equal, and no two other terms are.
+// These numbers are equal just so. So they come with tables, and they make the other rows true.
+pub fn numbers_without_the_last() -> [i64; 7]
+    ensures model { EqualityModel level_terms (active_rows (without_the_last (from_4_to (pos 5)))) (numbers_in result) }
+    ensures rows { All (Holds (numbers_in result)) (active_rows (without_the_last (from_4_to (pos 5)))) }
+{
+    [0, 5, 4, 5, 6, 7, 6]
+}
+
+// Three instants in two ticks, no two of them equal. If the spans are given only the equalities between instants, both rules allow the
+// arrangement with these codes; and yet no numbers make every row true.
+pub fn codes_without_order() -> [u8; 4]
     ensures accepted { Accepted three_terms in_two_ticks }
     ensures without_order { AllowedByBoth TableAllowed SpanAllowedInBlocks three_terms in_two_ticks result }
     ensures unmet { Satisfiable three_terms in_two_ticks → ⊥ }

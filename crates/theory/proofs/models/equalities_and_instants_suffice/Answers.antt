@@ -1,4 +1,4 @@
-use Rattle.theory.proofs.Serving.{classes_suffice, dates_suffice, equalities_suffice, instants_suffice}
+use Rattle.theory.proofs.Sufficing.{classes_suffice, dates_are_equal_in_classes, dates_suffice, equalities_suffice, instants_suffice}
 use Rattle.theory.proofs.models.equalities_and_instants_suffice.Goals as goal
 
 pub returns-clause-equalities : goal.returns-clause-equalities
@@ -12,3 +12,6 @@ returns-clause-instants c = instants_suffice
 
 pub returns-clause-dates : goal.returns-clause-dates
 returns-clause-dates c = dates_suffice
+
+pub returns-clause-same_dates : goal.returns-clause-same_dates
+returns-clause-same_dates c = dates_are_equal_in_classes

@@ -2,7 +2,7 @@ use Rattle.std.proofs.Common.{pos, arith}
 use Rattle.theory.specs.Sheets.{from_4_to, level_terms}
 use Rattle.theory.proofs.Between.{accepted_to, by_spans_to_5, by_table_to_5, equalities_satisfied, no_tick_between, nothing_implied, spans_satisfied}
 use Rattle.theory.proofs.Combining.{exact_together}
-use Rattle.theory.proofs.sheets.arrange_parts_from_4_to_5.Goals as goal
+use Rattle.theory.proofs.sheets.codes_of_parts_from_4_to_5.Goals as goal
 
 pub returns-clause-instants : goal.returns-clause-instants
 returns-clause-instants c = spans_satisfied

@@ -1,8 +1,8 @@
 use Rattle.std.proofs.Common.{[], ◌∷◌, pos}
 use Rattle.theory.specs.Sheets.{from_4_to, level_terms, without_the_last}
-use Rattle.theory.proofs.Between.{accepted_without_the_last, allowed_without_the_last}
+use Rattle.theory.proofs.WithoutTheLast.{accepted_without_the_last, allowed_without_the_last}
 use Rattle.theory.proofs.Combining.{exact_for_chosen}
-use Rattle.theory.proofs.sheets.arrange_without_the_last.Goals as goal
+use Rattle.theory.proofs.sheets.codes_without_the_last.Goals as goal
 
 pub returns-clause-allowed : goal.returns-clause-allowed
 returns-clause-allowed c = allowed_without_the_last

@@ -1,7 +1,7 @@
 use Rattle.theory.specs.Sheets.{in_two_ticks, three_terms}
 use Rattle.theory.proofs.Combining.{exact_together}
 use Rattle.theory.proofs.TwoTicks.{accepted_in_two_ticks, allowed_in_blocks, no_third_tick}
-use Rattle.theory.proofs.sheets.arrange_three_without_order.Goals as goal
+use Rattle.theory.proofs.sheets.codes_without_order.Goals as goal
 
 pub returns-clause-without_order : goal.returns-clause-without_order
 returns-clause-without_order c = allowed_in_blocks
