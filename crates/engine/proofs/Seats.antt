@@ -38,22 +38,19 @@ pub seats_push : (ts : List Term) (t : Term) → seats_of (ts ++ t ∷ []) ≡ s
 seats_push ts t = dated_push 0 ts t ∙ ap (λ n. seats_of ts ++ cond (is_dated t.kind) (n ∷ []) []) (omega arith)
 
 -- a seat is one of the terms, and each dated term has one
-dated_within : (k : ℕ) (ts : List Term) (n : ℕ) → k + length ts ≤ n → All (λ s. s < n) (dated_from k ts)
-dated_within k [] n l = All-nil _
-dated_within k (t ∷ ts) n l =
+dated_within : (k : ℕ) (ts : List Term) → All (λ s. (k ≤ s) × (s < k + length ts)) (dated_from k ts)
+dated_within k [] = All-nil _
+dated_within k (t ∷ ts) =
     let rest : List ℕ = dated_from (suc k) ts in
-    let later : All (λ s. s < n) rest = dated_within (suc k) ts n (omega arith) in
-    cond_both (is_dated t.kind) (k ∷ rest) rest (All (λ s. s < n)) (λ _. All-cons (λ s. s < n) k rest (omega arith) later) (λ _. later)
+    let later : All (λ s. (k ≤ s) × (s < k + length (t ∷ ts))) rest =
+    All-weaker (λ s. (suc k ≤ s) × (s < suc k + length ts)) (λ s. (k ≤ s) × (s < k + length (t ∷ ts)))
+    (λ s b. let (l, m) = b in (omega arith, omega arith)) rest (dated_within (suc k) ts) in
+    cond_both (is_dated t.kind) (k ∷ rest) rest (All (λ s. (k ≤ s) × (s < k + length (t ∷ ts))))
+    (λ _. All-cons (λ s. (k ≤ s) × (s < k + length (t ∷ ts))) k rest (omega arith, omega arith) later)
+    (λ _. later)
 
 pub seats_within : (ts : List Term) → All (λ s. s < length ts) (seats_of ts)
-seats_within ts = dated_within 0 ts (length ts) (omega arith)
-
-dated_after : (k : ℕ) (ts : List Term) → All (λ s. k ≤ s) (dated_from k ts)
-dated_after k [] = All-nil _
-dated_after k (t ∷ ts) =
-    let rest : List ℕ = dated_from (suc k) ts in
-    let later : All (λ s. k ≤ s) rest = All-weaker (λ s. suc k ≤ s) (λ s. k ≤ s) (λ s l. omega arith) rest (dated_after (suc k) ts) in
-    cond_both (is_dated t.kind) (k ∷ rest) rest (All (λ s. k ≤ s)) (λ _. All-cons (λ s. k ≤ s) k rest (omega arith) later) (λ _. later)
+seats_within ts = All-weaker (λ s. (0 ≤ s) × (s < 0 + length ts)) (λ s. s < length ts) (λ s b. let m = b.1 in omega arith) (seats_of ts) (dated_within 0 ts)
 
 dated_has : (k : ℕ) (ts : List Term) (i : ℕ) → i < length ts → is_dated_at ts i ≡ true → Contains (dated_from k ts) (k + i)
 dated_has k [] i l d = absurd (omega arith)
@@ -98,7 +95,8 @@ dates_at_seats k [] dates = λ p l. absurd (omega arith)
 dates_at_seats k (t ∷ ts) dates =
     let rest : List ℕ = dated_from (suc k) ts in
     cond_both (is_dated t.kind) (k ∷ rest) rest (λ ss. DatesAtSeats ss dates)
-    (λ _. dates_at_seats_next k rest dates (dated_after (suc k) ts) (dates_at_seats (suc k) ts (drop 1 dates)))
+    (λ _. dates_at_seats_next k rest dates (All-weaker (λ s. (suc k ≤ s) × (s < suc k + length ts)) (λ s. suc k ≤ s) (λ s b. b.0) rest (dated_within (suc k) ts))
+    (dates_at_seats (suc k) ts (drop 1 dates)))
     (λ _. dates_at_seats (suc k) ts dates)
 
 pub date_at_seat : (ts : List Term) (dates : List ℤ) (p : ℕ) → p < length (seats_of ts) → date_at (seats_of ts) dates (get_or (seats_of ts) p 0) ≡ get_or dates p (pos 0)

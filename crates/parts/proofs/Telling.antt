@@ -6,13 +6,13 @@ use Rattle.arrayvec.specs.ArrayVec.{ArrayVec}
 use Rattle.sheet.specs.declared.refusal.Refusal.{Refusal}
 use Rattle.sheet.specs.declared.row.Row.{Row}
 use Rattle.sheet.specs.declared.term.Term.{Term}
-use Rattle.engine.specs.Arrangements.{Arrangement, EqualInBlocks, InOrder, ranks}
+use Rattle.engine.specs.Arrangements.{Arrangement}
 use Rattle.engine.specs.Dates.{GreatestDates}
 use Rattle.engine.specs.Parts.{InstantsMet, LevelsMet}
 use Rattle.engine.specs.Rules.{SpanAllowed, TableAllowed, seat_numbers}
 use Rattle.engine.specs.States.{Completion, State, active_rows}
 use Rattle.engine.specs.Terms.{seats_of}
-use Rattle.engine.proofs.Allowing.{levels_allowed}
+use Rattle.engine.proofs.Allowing.{instants_allowed, levels_allowed}
 use Rattle.engine.proofs.Following.{front_extended, no_order}
 use Rattle.span.specs.Dating.{counts_spans}
 use Rattle.parts.specs.declared.diagnosis.Findings.{Findings}
@@ -39,7 +39,7 @@ module _ (s : State) (bare : s.codes ≡ []) where
     (λ (v, hold).
         let x : ℕ → ℤ = seat_numbers s.terms v in
         let r = front_extended (length (seats_of s.terms)) [] x (omega arith) refl (no_order x) in
-        completed SpanAllowed r.0 r.1 (v, record { hold = hold; ordered = r.2 })),
+        completed SpanAllowed r.0 r.1 (instants_allowed s.terms (active_rows s.rows) r.0 (v, hold) r.2)),
   )
 
   equalities_met : Completion TableAllowed s ↔ LevelsMet s.terms (active_rows s.rows)

@@ -11,6 +11,7 @@ use Rattle.engine.specs.declared.holdings.Holdings.{Holdings}
 use Rattle.engine.specs.declared.placed.Placed.{Placed}
 use Rattle.engine.specs.Arrangements.{ranks}
 use Rattle.engine.specs.Holding.{state_of}
+use Rattle.engine.specs.Equalities.{AlwaysEqual, Equates}
 use Rattle.engine.specs.Meaning.{Numbers, Tables, Interprets}
 use Rattle.engine.specs.EachPair.{each_pair}
 use Rattle.engine.specs.Placing.{placed_seats}
@@ -21,7 +22,6 @@ use Rattle.engine.proofs.EachPair.{either_way}
 use Rattle.engine.proofs.Lists.{all_front, all_back}
 use Rattle.engine.proofs.Placing.{all_placed_pairs, placed_pair_at}
 use Rattle.table.specs.Decisions.{classes_of, equal_pairs}
-use Rattle.engine.specs.Equalities.{AlwaysEqual, Equates}
 use Rattle.table.specs.Equalities.{EqualityClasses}
 use Rattle.table.specs.Pairs.{block_pairs, same_pairs}
 use Rattle.table.proofs.Below.{arguments_below_all, pairs_below}

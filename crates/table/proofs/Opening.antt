@@ -16,6 +16,7 @@ use Rattle.engine.specs.declared.placed.Placed.{Placed}
 use Rattle.engine.specs.Arrangements.{EqualInBlocks, ranks}
 use Rattle.engine.specs.EachPair.{each_pair}
 use Rattle.engine.specs.Holding.{state_of}
+use Rattle.engine.specs.Equalities.{AlwaysEqual, Equates, SameHolds}
 use Rattle.engine.specs.Meaning.{Numbers}
 use Rattle.engine.specs.Placing.{placed_seats}
 use Rattle.engine.specs.Rows.{terms_below}
@@ -30,7 +31,6 @@ use Rattle.engine.proofs.Following.{blocks_front}
 use Rattle.engine.proofs.Placing.{all_placed_pairs, placed_pair_at, placed_seat}
 use Rattle.table.specs.Apart.{blocks_apart, row_apart, rows_apart, two_apart}
 use Rattle.table.specs.Decisions.{classes_of, equal_pairs}
-use Rattle.engine.specs.Equalities.{AlwaysEqual, Equates, SameHolds}
 use Rattle.table.specs.Equalities.{KeptApart, RowKeptApart}
 use Rattle.table.proofs.Below.{active_below, seat_below}
 use Rattle.table.proofs.Equating.{by_choices, exact, pairs_equate}

@@ -6,8 +6,8 @@ use Rattle.sheet.specs.declared.row.Row.{Row}
 use Rattle.sheet.specs.declared.row.Row.TheVariants.{Span, Same, Unlike}
 use Rattle.congruence.specs.Claims.{Equal}
 use Rattle.engine.specs.declared.placed.Placed.{Placed}
-use Rattle.engine.specs.Meaning.{Numbers}
 use Rattle.engine.specs.Equalities.{SameHolds}
+use Rattle.engine.specs.Meaning.{Numbers}
 use Rattle.table.specs.Pairs.{equated_terms, in_one_block, same_pairs, terms_of}
 
 -- rows

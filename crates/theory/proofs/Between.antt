@@ -1,5 +1,5 @@
 -- An instant between 4 and 6, and none between 4 and 5.
-use Rattle.std.proofs.Common.{◌≡◌, ◌≢◌, ℕ, true, ◌≤◌, ◌==◌, if◌then◌else◌, List, [], ◌∷◌, get_or, ℤ, pos, refl, arith, rules}
+use Rattle.std.proofs.Common.{◌≡◌, ◌≢◌, ℕ, true, ◌≤◌, ◌==◌, if◌then◌else◌, get_or, pos, refl, arith, rules}
 use Rattle.std.proofs.lemmas.Bool.Decides.{nat_tests}
 use Rattle.std.proofs.lemmas.Int.{ints}
 use Rattle.std.proofs.lemmas.List.Elements.{All-from_recursion, recursion_from_All}
@@ -15,7 +15,7 @@ use Rattle.congruence.proofs.Interpreting.{congruence_is_needed}
 use Rattle.theory.specs.Accepted.{Accepted}
 use Rattle.theory.specs.Combining.{AllowedByBoth}
 use Rattle.theory.specs.Models.{DatedModel}
-use Rattle.theory.specs.Sheets.{counts_all, equalities_of, from_4_to, holding, level_terms, spans_of, x_between}
+use Rattle.theory.specs.Sheets.{counts_all, dates_between, equalities_of, from_4_to, holding, level_terms, spans_of, x_between, x_past_both, x_with_a}
 use Rattle.theory.specs.Unsound.{NoEqualityImplied}
 use Rattle.theory.proofs.Together.{dated}
 use Rattle.theory.proofs.LevelSheets.{allowed_at, instants_at, levels_at, numbers_at, satisfied_at, span_allowed_at, table_allowed_at}
@@ -27,17 +27,14 @@ accepted_to b l = record { each_term = refl; each_row = All-from_recursion (λ r
 pub allowed_to_6 : AllowedByBoth TableAllowed SpanAllowed level_terms (from_4_to (pos 6)) x_between
 allowed_to_6 = allowed_at 5 6 _ (search rules) _ (search rules) (search (arith, ints)) (search (arith, ints))
 
-abbrev dates_to_6 : List ℤ
-dates_to_6 = pos 0 ∷ pos 5 ∷ pos 4 ∷ pos 6 ∷ []
-
-pub right_dates : RightDates counts_all (holding (from_4_to (pos 6)) x_between) dates_to_6
+pub right_dates : RightDates counts_all (holding (from_4_to (pos 6)) x_between) dates_between
 right_dates = search rules
 
 pub dated_to_6 : (found : TableAllowed level_terms (from_4_to (pos 6)) x_between)
-    × DatedModel counts_all (holding (from_4_to (pos 6)) x_between) found.numbers dates_to_6
+    × DatedModel counts_all (holding (from_4_to (pos 6)) x_between) found.numbers dates_between
 dated_to_6 =
     let found = allowed_to_6.by_first in
-    (found, dated counts_all (holding (from_4_to (pos 6)) x_between) dates_to_6 (accepted_to 6 (omega arith)) allowed_to_6.arrangement found right_dates)
+    (found, dated counts_all (holding (from_4_to (pos 6)) x_between) dates_between (accepted_to 6 (omega arith)) allowed_to_6.arrangement found right_dates)
 
 -- From 4 to 5, where the spans allow x the number of a, and the levels allow it 6
 pub spans_satisfied : Satisfiable level_terms (spans_of (from_4_to (pos 5)))
@@ -46,10 +43,10 @@ spans_satisfied = satisfied_at 4 5 _ (search (arith, ints))
 pub equalities_satisfied : Satisfiable level_terms (equalities_of (from_4_to (pos 5)))
 equalities_satisfied = satisfied_at 6 5 _ (search (arith, ints))
 
-pub by_table_to_5 : Arrangement 4 (0 ∷ 2 ∷ 2 ∷ 4 ∷ []) × TableAllowed level_terms (from_4_to (pos 5)) (0 ∷ 2 ∷ 2 ∷ 4 ∷ [])
+pub by_table_to_5 : Arrangement 4 x_past_both × TableAllowed level_terms (from_4_to (pos 5)) x_past_both
 by_table_to_5 = (search rules, table_allowed_at 6 5 _ (search rules) _ (search (arith, ints)))
 
-pub by_spans_to_5 : Arrangement 4 (0 ∷ 2 ∷ 3 ∷ 4 ∷ []) × SpanAllowed level_terms (from_4_to (pos 5)) (0 ∷ 2 ∷ 3 ∷ 4 ∷ [])
+pub by_spans_to_5 : Arrangement 4 x_with_a × SpanAllowed level_terms (from_4_to (pos 5)) x_with_a
 by_spans_to_5 = (search rules, span_allowed_at 4 5 _ (search rules) _ (search (arith, ints)))
 
 pub levels_met : LevelsMet level_terms (from_4_to (pos 5))

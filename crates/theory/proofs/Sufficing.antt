@@ -35,16 +35,16 @@ RelationHolds equal (Unlike i j) = equal i j → ⊥
 -- numbers that are equal exactly where a relation holds, which is congruent and as the rows ask
 module _ (ts : List Term) (rows : List Row) (accepted : Accepted ts rows) (equal : ℕ → ℕ → Type 0) (w : Numbers)
     (exactly : EqualExactlyWhere (length ts) equal w) where
-  equality_holds : (r : Row) → row_fits ts r ≡ true → RelationHolds equal r → EqualityHolds w r
-  equality_holds (Span i j c) fits h = tt
-  equality_holds (Same i j) fits h = let (l, k) = terms_of_row ts (Same i j) fits in (exactly i j l k).0 h
-  equality_holds (Unlike i j) fits h = let (l, k) = terms_of_row ts (Unlike i j) fits in λ e. h ((exactly i j l k).1 e)
+  holds_by_relation : (r : Row) → row_fits ts r ≡ true → RelationHolds equal r → EqualityHolds w r
+  holds_by_relation (Span i j c) fits h = tt
+  holds_by_relation (Same i j) fits h = let (l, k) = terms_of_row ts (Same i j) fits in (exactly i j l k).0 h
+  holds_by_relation (Unlike i j) fits h = let (l, k) = terms_of_row ts (Unlike i j) fits in λ e. h ((exactly i j l k).1 e)
 
   relation_suffices : w 0 ≡ pos 0 → CongruentRelation ts equal → All (RelationHolds equal) rows → EqualityModel ts rows w
   relation_suffices z c hold =
       record {
         interpreted = congruence_suffices ts w z (congruent_by ts equal w (arguments_are_terms ts accepted.each_term) exactly c);
-        hold = λ k d l. equality_holds (get_or rows k d) (accepted.each_row k d l) (hold k d l);
+        hold = λ k d l. holds_by_relation (get_or rows k d) (accepted.each_row k d l) (hold k d l);
       }
 
 -- the equalities of the numbers found are such a relation

@@ -69,4 +69,4 @@ dated counts s dates accepted arrangement found right =
     let x : Numbers = λ i. date_at (seats_of s.terms) dates i in
     let p = put_together s.terms (active_rows s.rows) s.codes x accepted arrangement found (dates_in_order counts s dates right arrangement.full found) in
     let at = (dates_at_instants counts s dates right p.numbers accepted).1 p.at_instants in
-    record { numbers = p.numbers; dated = at; equal = p.equal; model = p.model; counted = dates_suffice counts s dates p.numbers accepted right at }
+    record { together = p; dated = at; counted = dates_suffice counts s dates p.numbers accepted right at }

@@ -77,13 +77,11 @@ DatesAreEqualInClasses = (counts : RowKind → Bool) (s : State) (dates : List �
     → (i j : ℕ) → i < length s.terms → j < length s.terms → is_dated_at s.terms i ≡ true → is_dated_at s.terms j ≡ true
     → AlwaysEqual s.terms (active_rows s.rows) s.codes i j ↔ (date_at (seats_of s.terms) dates i ≡ date_at (seats_of s.terms) dates j)
 
--- a model put together of v and dates
+-- a model put together of v and dates, in which all that is so
 pub record DatedModel (counts : RowKind → Bool) (s : State) (v : Numbers) (dates : List ℤ) : Type 0 where
-  pub numbers : Numbers
-  pub dated : AtDates s.terms dates numbers
-  pub equal : SameEqualities (length s.terms) v numbers
-  pub model : EqualityModel s.terms (active_rows s.rows) numbers
-  pub counted : All (CountedHolds counts s.terms numbers) (active_rows s.rows)
+  pub together : PutTogether s.terms (active_rows s.rows) v (λ i. date_at (seats_of s.terms) dates i)
+  pub dated : AtDates s.terms dates together.numbers
+  pub counted : All (CountedHolds counts s.terms together.numbers) (active_rows s.rows)
 
 -- there is one with the dates of each engine that dates
 abbrev pub ModelsAreDated : Type 0

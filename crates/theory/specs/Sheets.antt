@@ -43,9 +43,25 @@ spans_of rows = filter is_span rows
 abbrev pub equalities_of : List Row → List Row
 equalities_of rows = filter (λ r. not (is_span r)) rows
 
--- the codes that place x between a and b
+-- codes that place a before b, and x between the two, past both, with a, or with b
 abbrev pub x_between : List ℕ
 x_between = 0 ∷ 2 ∷ 2 ∷ 6 ∷ []
+
+abbrev pub x_past_both : List ℕ
+x_past_both = 0 ∷ 2 ∷ 2 ∷ 4 ∷ []
+
+abbrev pub x_with_a : List ℕ
+x_with_a = 0 ∷ 2 ∷ 3 ∷ 4 ∷ []
+
+abbrev pub x_with_b : List ℕ
+x_with_b = 0 ∷ 2 ∷ 2 ∷ 5 ∷ []
+
+-- dates with x between a and b, where b is 6; and numbers for all terms with x with b, where b is 5
+abbrev pub dates_between : List ℤ
+dates_between = pos 0 ∷ pos 5 ∷ pos 4 ∷ pos 6 ∷ []
+
+abbrev pub numbers_with_b : List ℤ
+numbers_with_b = pos 0 ∷ pos 5 ∷ pos 4 ∷ pos 5 ∷ pos 6 ∷ pos 7 ∷ pos 6 ∷ []
 
 -- the rows as an engine holds them, all active; and with the last one muted
 abbrev pub noted_rows : List Row → List Noted
@@ -69,6 +85,10 @@ numbers_in xs i = slice_index_or xs i (pos 0)
 -- zero and the instants x, y and z
 abbrev pub three_terms : List Term
 three_terms = zero_term ∷ instant ∷ instant ∷ instant ∷ []
+
+-- the codes that place each past those before it
+abbrev pub each_past : List ℕ
+each_past = 0 ∷ 2 ∷ 4 ∷ 6 ∷ []
 
 -- all three lie from 1 to 2, and no two are equal
 abbrev pub in_two_ticks : List Row
