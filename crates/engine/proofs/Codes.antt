@@ -2,7 +2,7 @@
 use Rattle.std.proofs.Common.{◌≡◌, ℕ, ◌+◌, ◌*◌, ◌<◌, ◌≤◌, true, cond, leb, ◌⊎◌, List, [], ◌∷◌, ◌++◌, length, count_by, sym, refl, ap, ◌∙◌, inl, inr, ⊎_elim, arith}
 use Rattle.std.proofs.lemmas.List.Recursion.{is_sum_by}
 use Rattle.std.proofs.lemmas.List.Sums.{count_by-le-length}
-use Rattle.std.proofs.lemmas.Bool.{and_parts, leb-true}
+use Rattle.std.proofs.lemmas.Bool.{and_parts, cases_order, leb-true}
 use Rattle.engine.specs.Arrangements.{Before, blocks, is_valid, opens_block}
 
 pub blocks_counted : (cs : List ℕ) → count_by opens_block cs ≡ blocks cs
@@ -36,3 +36,18 @@ before_push (d ∷ ds) (x ∷ cs) c h =
     (λ l. inl (inl l))
     (λ p. ⊎_elim (λ q. inl (inr (p.0, q))) (λ q. inr (q.0, q.1, q.2, ap (λ y. y ∷ ds) p.0 ∙ ap (λ y. x ∷ y) q.3)) (before_push ds cs c p.1))
     h
+
+-- of two lists of codes of one length one comes before the other, or they are equal
+pub codes_ordered : (cs ds : List ℕ) → length cs ≡ length ds → (cs ≡ ds) ⊎ (Before cs ds ⊎ Before ds cs)
+codes_ordered [] [] e = inl refl
+codes_ordered [] (d ∷ ds) e = absurd (omega arith)
+codes_ordered (c ∷ cs) [] e = absurd (omega arith)
+codes_ordered (c ∷ cs) (d ∷ ds) e =
+    ⊎_elim
+    (λ q.
+    ⊎_elim
+    (λ p. inl (λ i. q i ∷ p i))
+    (λ p. inr (⊎_elim (λ b. inl (inr (q, b))) (λ b. inr (inr (sym q, b))) p))
+    (codes_ordered cs ds (omega arith)))
+    (λ q. inr (⊎_elim (λ l. inl (inl l)) (λ l. inr (inl l)) q))
+    (cases_order c d)

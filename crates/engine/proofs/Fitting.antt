@@ -118,7 +118,7 @@ rows_still ts t (m ∷ ms) f =
     let p = and_parts (row_fits ts m.row) (all_rows_fit ts ms) f in
     and_from (row_fits (ts ++ t ∷ []) m.row) (all_rows_fit (ts ++ t ∷ []) ms) (row_still ts t m.row p.0) (rows_still ts t ms p.1)
 
-accepted_none : (o : Option Cause) → is_accepted o ≡ true → o ≡ None
+pub accepted_none : (o : Option Cause) → is_accepted o ≡ true → o ≡ None
 accepted_none None e = refl
 accepted_none (Some c) e = cc
 

@@ -15,10 +15,10 @@ pub record Outcome : Type 0 where
   pub refusal : Option Cause
   pub next : State
 
--- a refusal leaves the state s, and otherwise the state t follows
-abbrev pub unless_refused : Option Cause → State → State → State
-unless_refused None s t = t
-unless_refused (Some c) s t = s
+-- a refusal leaves what there was
+abbrev pub unless_refused : {X : Type 0} → Option Cause → X → X → X
+unless_refused None old new = new
+unless_refused (Some c) old new = old
 
 abbrev pub attempt : State → Option Cause → State → Outcome
 attempt s o t = record { refusal = o; next = unless_refused o s t }

@@ -1,8 +1,7 @@
 -- What is said of a sheet is said of no other answer: the walk, the refusal and the first arrangement are the only ones, and a sheet that one
 -- engine takes no engine refuses.
-use Rattle.std.proofs.Common.{◌≡◌, ℕ, ◌<◌, ◌⊎◌, Bool, List, [], ◌∷◌, ◌++◌, length, drop, ℤ, Some, None, Ok, Err, Option, Result, sym, refl, ap, ◌∙◌, subst, inl, inr, ⊎_elim, arith, length-drop}
+use Rattle.std.proofs.Common.{◌≡◌, ℕ, ◌<◌, Bool, List, [], ◌++◌, length, drop, ℤ, Some, None, Ok, Err, Option, Result, sym, refl, ap, ◌∙◌, subst, ⊎_elim, arith, length-drop}
 use Rattle.std.proofs.lemmas.List.{append_cancel_left}
-use Rattle.std.proofs.lemmas.Bool.{cases_order}
 use Rattle.arrayvec.specs.ArrayVec.{ArrayVec}
 use Rattle.sheet.specs.declared.fault.Cause.TheVariants.{CutShort}
 use Rattle.sheet.specs.declared.fault.Fault.{Fault}
@@ -11,7 +10,7 @@ use Rattle.sheet.specs.declared.term.Term.{Term}
 use Rattle.sheet.specs.Causes.{fault_in, reader_letter}
 use Rattle.sheet.specs.Fields.{FieldValue}
 use Rattle.sheet.specs.Parsing.{parse, remaining}
-use Rattle.engine.specs.Arrangements.{Before}
+use Rattle.engine.proofs.Codes.{codes_ordered}
 use Rattle.engine.specs.Rows.{RowKind}
 use Rattle.engine.specs.States.{State, new_state}
 use Rattle.sheet.specs.declared.refusal.Refusal.{Refusal}
@@ -91,21 +90,6 @@ pub taken_not_refused : (rule : List Term → List Row → List ℕ → Type 0) 
 taken_not_refused rule counts picks letter other sheet s t (Some seats) e x y = not_refused other sheet letter x.noted t e x.walk y
 taken_not_refused rule counts picks letter other sheet s t None e x y = not_refused other sheet letter s t e x.walk y
 
--- of two lists of codes of one length one comes before the other, or they are equal
-ordered : (cs ds : List ℕ) → length cs ≡ length ds → (cs ≡ ds) ⊎ (Before cs ds ⊎ Before ds cs)
-ordered [] [] e = inl refl
-ordered [] (d ∷ ds) e = absurd (omega arith)
-ordered (c ∷ cs) [] e = absurd (omega arith)
-ordered (c ∷ cs) (d ∷ ds) e =
-    ⊎_elim
-    (λ q.
-    ⊎_elim
-    (λ p. inl (λ i. q i ∷ p i))
-    (λ p. inr (⊎_elim (λ b. inl (inr (q, b))) (λ b. inr (inr (sym q, b))) p))
-    (ordered cs ds (omega arith)))
-    (λ q. inr (⊎_elim (λ l. inl (inl l)) (λ l. inr (inl l)) q))
-    (cases_order c d)
-
 -- there is only one first completion
 pub first_once : (rule : List Term → List Row → List ℕ → Type 0) (s : State) (cs ds : List ℕ) → FirstCompletion rule s cs → FirstCompletion rule s ds → cs ≡ ds
 first_once rule s cs ds x y =
@@ -113,4 +97,4 @@ first_once rule s cs ds x y =
     (⊎_elim
     (λ e. e)
     (λ q. absurd (⊎_elim (λ b. y.first cs x.full x.allowed b) (λ b. x.first ds y.full y.allowed b) q))
-    (ordered (s.codes ++ cs) (s.codes ++ ds) (x.full.full ∙ sym y.full.full)))
+    (codes_ordered (s.codes ++ cs) (s.codes ++ ds) (x.full.full ∙ sym y.full.full)))

@@ -1,0 +1,12 @@
+use Rattle.std.proofs.Common.{sym, ◌∙◌, subst}
+use Rattle.std.specs.Str.Parse.{ParsesUnsigned}
+use Rattle.benchrun.proofs.Numbers.{index_parsed, no_index}
+use Rattle.benchrun.proofs.command.read_index.Goals as goal
+
+pub returns-in_err-number_text : goal.returns-in_err-number_text
+returns-in_err-number_text c = c.from_residual.ensures ∙ sym (no_index c.args.word.now c.in_err-number_text.ensures)
+
+pub returns : goal.returns
+returns c =
+    let text = c.in_ok-number_text.ensures in
+    c.ok.ensures.value ∙ index_parsed c.args.word.now c.parse.result (subst (λ w. ParsesUnsigned 8 10 w c.parse.result) text.0 c.parse.ensures.value.0) text.1

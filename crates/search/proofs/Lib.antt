@@ -1,0 +1,17 @@
+pub mod Alike
+pub mod Chosen
+pub mod Cores
+pub mod Deciding
+pub mod Descending
+pub mod Earliest
+pub mod Falling
+pub mod Firsts
+pub mod Giving
+pub mod Halfway
+pub mod Knowing
+pub mod Lifting
+pub mod Marking
+pub mod Marks
+pub mod Noting
+pub mod Turning
+pub mod Walking
