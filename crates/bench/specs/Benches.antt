@@ -14,32 +14,32 @@ use Rattle.bench.specs.declared.shown.Shown.{Shown}
 abbrev pub declared : Draft → List Term
 declared d = terms_of d.standing
 
-module _ {F S : Type 0} where
-  abbrev pub terms_at : Bench F S → List Term
+module _ {F S : Type 0} {f : Ghosts F} {s : Ghosts S} where
+  abbrev pub terms_at : Bench F S f s → List Term
   terms_at b = terms_of b.standing
 
   -- the rows that stand at an open bench
-  abbrev pub rows_at : Bench F S → List Row
+  abbrev pub rows_at : Bench F S f s → List Row
   rows_at b = rows_of b.standing
 
-  abbrev pub terms_shown : Shown F S → List Term
+  abbrev pub terms_shown : Shown F S f s → List Term
   terms_shown r = terms_of r.standing
 
   -- what was found
-  abbrev pub found : Shown F S → Finding
+  abbrev pub found : Shown F S f s → Finding
   found r = value_of r.verdict
 
   -- the rows that stand while a result is shown
-  abbrev pub rows_shown : Shown F S → List Row
+  abbrev pub rows_shown : Shown F S f s → List Row
   rows_shown r = rows_of r.standing
 
 module _ {F S : Type 0} (f : Ghosts F) (s : Ghosts S) where
   -- both engines hold the terms and the rows that stand, no row muted and no code placed
-  pub record BothHold (b : Bench F S) : Type 0 where
+  pub record BothHold (b : Bench F S f s) : Type 0 where
     pub by_first : f.state b.first ≡ standing_state (terms_at b) (rows_at b)
     pub by_second : s.state b.second ≡ standing_state (terms_at b) (rows_at b)
 
   -- both engines hold the terms and the rows that stand: at an arrangement its codes are placed, and at a clash just its rows are active
-  pub record BothHoldFound (r : Shown F S) : Type 0 where
+  pub record BothHoldFound (r : Shown F S f s) : Type 0 where
     pub by_first : f.state r.first ≡ found_state (terms_shown r) (rows_shown r) (found r)
     pub by_second : s.state r.second ≡ found_state (terms_shown r) (rows_shown r) (found r)

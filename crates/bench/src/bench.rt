@@ -7,7 +7,6 @@ ghost use Rattle.engine.specs.Refusals.{answer_in, row_refusal, strike_refusal};
 ghost use Rattle.search.specs.Standing.{terms_of, rows_of};
 ghost use Rattle.search.specs.Verdicts.{Judged};
 ghost use Rattle.bench.specs.Letters.{bench_letter};
-ghost use Rattle.bench.specs.Benches.{terms_at, rows_at, terms_shown, rows_shown, BothHold, BothHoldFound, found};
 
 use crate::shown::Shown;
 use engine::engine::Engine;
@@ -22,16 +21,20 @@ use sheet::term::Term;
 // The letter of the layer that takes rows.
 const BENCH: char = 'B';
 
-// A bench has its terms for good, and the rows that stand: those accepted and not since struck. It owns two engines, and gives them what stands
-// whenever it needs them, so that nothing rests on what an engine was left holding.
+// A bench has its terms, which do not change, and the rows that stand: those accepted and not since struck. It owns two engines, and gives them what stands
+// whenever it needs them, so that no answer rests on what an engine was left holding. Its engines hold its terms all the while.
 #[derive(Drop)]
 pub struct Bench<F: Engine, S: Engine> {
     pub(crate) standing: Standing,
     pub(crate) first: F,
     pub(crate) second: S,
+    ghost terms_by_first: { (F.state first).terms ≡ terms_of standing },
+    ghost terms_by_second: { (S.state second).terms ≡ terms_of standing },
 }
 
 impl<F: Engine, S: Engine> Bench<F, S> {
+    ghost use Rattle.bench.specs.Benches.{terms_at, rows_at, terms_shown, rows_shown, BothHold, BothHoldFound, found};
+
     // A bench whose engines are made new and hold what stands.
     pub(crate) fn with_engines(standing: Standing, first: F, second: S) -> Bench<F, S>
         ensures terms { terms_at result ≡ terms_of standing }

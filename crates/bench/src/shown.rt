@@ -1,8 +1,8 @@
 // A result that is shown.
 ghost use Rattle.std.specs.Prelude.{◌≡◌};
-ghost use Rattle.search.specs.Verdicts.{value_of};
+ghost use Rattle.search.specs.Verdicts.{Judged, value_of};
+ghost use Rattle.search.specs.Standing.{terms_of, rows_of};
 ghost use Rattle.bench.specs.Letters.{result_letter};
-ghost use Rattle.bench.specs.Benches.{terms_at, rows_at, terms_shown, rows_shown, BothHold, found};
 ghost use Rattle.bench.specs.Results.{item_of, code_of, clash_row_of};
 ghost use Rattle.sheet.specs.Causes.{in_layer};
 
@@ -16,16 +16,19 @@ use sheet::layer::InLayer;
 // The letter of the layer that a result is read off from.
 const RESULT: char = 'P';
 
-// A bench while its result is shown. It takes no row before it is reopened.
+// A bench while its result is shown. It takes no row before it is reopened: what is shown was found for the rows that stand.
 #[derive(Drop)]
 pub struct Shown<F: Engine, S: Engine> {
     pub(crate) standing: Standing,
     pub(crate) verdict: Verdict,
     pub(crate) first: F,
     pub(crate) second: S,
+    ghost judged: { ∥ Judged (F.rule (F.setting first)) (S.rule (S.setting second)) (terms_of standing) (rows_of standing) (value_of verdict) ∥₁ },
 }
 
 impl<F: Engine, S: Engine> Shown<F, S> {
+    ghost use Rattle.bench.specs.Benches.{terms_at, rows_at, terms_shown, rows_shown, BothHold, found};
+
     // What was found.
     pub fn verdict(&self) -> &Verdict
         ensures { value_of result.now ≡ found self.now }
