@@ -8,7 +8,6 @@ ghost use Rattle.bench.specs.Letters.{draft_letter};
 
 use crate::bench::Bench;
 use engine::engine::Engine;
-use search::note::note_standing;
 use search::standing::Standing;
 use sheet::fault::Fault;
 use sheet::layer::InLayer;
