@@ -5,7 +5,7 @@ use Rattle.sheet.specs.declared.term.Term.{Term}
 use Rattle.engine.specs.declared.engine.Engine.{Ghosts}
 use Rattle.search.specs.Standing.{rows_of, terms_of}
 use Rattle.search.specs.Unmuted.{standing_state}
-use Rattle.search.specs.Verdicts.{Finding, found_state, value_of}
+use Rattle.search.specs.Verdicts.{Finding, value_of}
 use Rattle.bench.specs.declared.bench.Bench.{Bench}
 use Rattle.bench.specs.declared.draft.Draft.{Draft}
 use Rattle.bench.specs.declared.shown.Shown.{Shown}
@@ -38,8 +38,3 @@ module _ {F S : Type 0} (f : Ghosts F) (s : Ghosts S) where
   pub record BothHold (b : Bench F S f s) : Type 0 where
     pub by_first : f.state b.first ≡ standing_state (terms_at b) (rows_at b)
     pub by_second : s.state b.second ≡ standing_state (terms_at b) (rows_at b)
-
-  -- both engines hold the terms and the rows that stand: at an arrangement its codes are placed, and at a clash just its rows are active
-  pub record BothHoldFound (r : Shown F S f s) : Type 0 where
-    pub by_first : f.state r.first ≡ found_state (terms_shown r) (rows_shown r) (found r)
-    pub by_second : s.state r.second ≡ found_state (terms_shown r) (rows_shown r) (found r)

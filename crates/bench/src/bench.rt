@@ -4,6 +4,7 @@ ghost use Rattle.engine.specs.Calls.{unless_refused, without_last};
 ghost use Rattle.engine.specs.Fitting.{row_fits};
 ghost use Rattle.engine.specs.Limits.{max_rows};
 ghost use Rattle.engine.specs.Refusals.{answer_in, row_refusal, strike_refusal};
+ghost use Rattle.engine.specs.Terms.{zero_term};
 ghost use Rattle.search.specs.Standing.{terms_of, rows_of};
 ghost use Rattle.search.specs.Verdicts.{Judged};
 ghost use Rattle.bench.specs.Letters.{bench_letter};
@@ -33,7 +34,7 @@ pub struct Bench<F: Engine, S: Engine> {
 }
 
 impl<F: Engine, S: Engine> Bench<F, S> {
-    ghost use Rattle.bench.specs.Benches.{terms_at, rows_at, terms_shown, rows_shown, BothHold, BothHoldFound, found};
+    ghost use Rattle.bench.specs.Benches.{terms_at, rows_at, terms_shown, rows_shown, BothHold, found};
 
     // A bench whose engines are made new and hold what stands.
     pub(crate) fn with_engines(standing: Standing, first: F, second: S) -> Bench<F, S>
@@ -82,12 +83,28 @@ impl<F: Engine, S: Engine> Bench<F, S> {
         self.standing.strike().in_layer(BENCH)
     }
 
+    // Begins anew with zero alone and no row, as over a new draft. The engines and the room stay.
+    pub fn emptied(self) -> Bench<F, S>
+        ensures terms { terms_at result ≡ zero_term ∷ [] }
+        ensures rows { rows_at result ≡ [] }
+        ensures engines { BothHold F.Engine S.Engine result }
+        ensures keeps_first { F.setting result.first ≡ F.setting self.first }
+        ensures keeps_second { S.setting result.second ≡ S.setting self.second }
+    {
+        let Bench {
+            mut standing,
+            first,
+            second,
+        } = self;
+        standing.clear();
+        Bench::with_engines(standing, first, second)
+    }
+
     // Finds the first arrangement that both engines allow, or the rows of the clash. The bench is shown with what was found until it is reopened.
     pub fn judge(self) -> Shown<F, S>
         ensures judges { Judged (F.rule (F.setting self.first)) (S.rule (S.setting self.second)) (terms_at self) (rows_at self) (found result) }
         ensures terms { terms_shown result ≡ terms_at self }
         ensures rows { rows_shown result ≡ rows_at self }
-        ensures engines { BothHoldFound F.Engine S.Engine result }
         ensures keeps_first { F.setting result.first ≡ F.setting self.first }
         ensures keeps_second { S.setting result.second ≡ S.setting self.second }
     {

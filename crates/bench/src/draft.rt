@@ -42,6 +42,13 @@ impl Draft {
         self.standing.terms()
     }
 
+    // Drops the terms declared, so that zero alone is left. The room stays.
+    pub fn clear(&mut self)
+        ensures { declared self.new ≡ zero_term ∷ [] }
+    {
+        self.standing.clear();
+    }
+
     // Adds a term at the end.
     pub fn declare(&mut self, term: Term) -> Result<(), Fault>
         ensures answers { result ≡ answer_in draft_letter (term_refusal (declared self.old) term) }

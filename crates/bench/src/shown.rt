@@ -1,7 +1,8 @@
 // A result that is shown.
 ghost use Rattle.std.specs.Prelude.{◌≡◌};
-ghost use Rattle.search.specs.Verdicts.{Judged, value_of};
+ghost use Rattle.search.specs.Verdicts.{Judged, found_state, value_of};
 ghost use Rattle.search.specs.Standing.{terms_of, rows_of};
+ghost use Rattle.engine.specs.Terms.{seats_of};
 ghost use Rattle.bench.specs.Letters.{result_letter};
 ghost use Rattle.bench.specs.Results.{item_of, code_of, clash_row_of};
 ghost use Rattle.sheet.specs.Causes.{in_layer};
@@ -12,11 +13,13 @@ use search::standing::Standing;
 use search::verdict::Verdict;
 use sheet::fault::{Cause, Fault};
 use sheet::layer::InLayer;
+use sheet::term::Term;
 
 // The letter of the layer that a result is read off from.
-const RESULT: char = 'P';
+pub const RESULT: char = 'P';
 
-// A bench while its result is shown. It takes no row before it is reopened: what is shown was found for the rows that stand.
+// A bench while its result is shown. It takes no row before it is reopened: what is shown was found for the rows that stand. Both engines hold
+// what stands: at an arrangement its codes are placed, and at a clash just its rows are active.
 #[derive(Drop)]
 pub struct Shown<F: Engine, S: Engine> {
     pub(crate) standing: Standing,
@@ -24,10 +27,42 @@ pub struct Shown<F: Engine, S: Engine> {
     pub(crate) first: F,
     pub(crate) second: S,
     ghost judged: { ∥ Judged (F.rule (F.setting first)) (S.rule (S.setting second)) (terms_of standing) (rows_of standing) (value_of verdict) ∥₁ },
+    ghost held_by_first: { F.state first ≡ found_state (terms_of standing) (rows_of standing) (value_of verdict) },
+    ghost held_by_second: { S.state second ≡ found_state (terms_of standing) (rows_of standing) (value_of verdict) },
 }
 
 impl<F: Engine, S: Engine> Shown<F, S> {
     ghost use Rattle.bench.specs.Benches.{terms_at, rows_at, terms_shown, rows_shown, BothHold, found};
+
+    // The terms, zero first.
+    pub fn terms(&self) -> &[Term]
+        ensures { result.now ≡ terms_shown self.now }
+    {
+        self.standing.terms()
+    }
+
+    // The indices of the dated terms.
+    pub fn seats(&self) -> &[u8]
+        ensures { result.now ≡ seats_of (terms_shown self.now) }
+    {
+        self.standing.seats()
+    }
+
+    // The first engine, to be asked more about what was found.
+    pub fn first(&self) -> &F
+        ensures engine { result.now ≡ self.now.first }
+        ensures holds { F.state result.now ≡ found_state (terms_shown self.now) (rows_shown self.now) (found self.now) }
+    {
+        &self.first
+    }
+
+    // The second engine.
+    pub fn second(&self) -> &S
+        ensures engine { result.now ≡ self.now.second }
+        ensures holds { S.state result.now ≡ found_state (terms_shown self.now) (rows_shown self.now) (found self.now) }
+    {
+        &self.second
+    }
 
     // What was found.
     pub fn verdict(&self) -> &Verdict
@@ -41,7 +76,7 @@ impl<F: Engine, S: Engine> Shown<F, S> {
         ensures { result ≡ in_layer result_letter (code_of (found self.now) seat) }
     {
         match &self.verdict {
-            Verdict::SetUp { codes } => read_at(codes.as_slice(), seat),
+            Verdict::Arrangement { codes } => read_at(codes.as_slice(), seat),
             Verdict::Clash { .. } => Err(Cause::OtherVerdict),
         }
         .in_layer(RESULT)
@@ -53,7 +88,7 @@ impl<F: Engine, S: Engine> Shown<F, S> {
     {
         match &self.verdict {
             Verdict::Clash { rows } => read_at(rows.as_slice(), place),
-            Verdict::SetUp { .. } => Err(Cause::OtherVerdict),
+            Verdict::Arrangement { .. } => Err(Cause::OtherVerdict),
         }
         .in_layer(RESULT)
     }

@@ -2,5 +2,4 @@ pub mod Commands
 pub mod Histories
 pub mod Lines
 pub mod Sessions
-pub mod TermFields
 pub mod Transcripts

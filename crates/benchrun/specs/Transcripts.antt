@@ -10,7 +10,7 @@ use Rattle.runs.specs.Law.{Run, Status, open_with}
 use Rattle.benchrun.specs.declared.command.Command.{Command}
 use Rattle.benchrun.specs.declared.transcript.Transcript.{Transcript}
 use Rattle.benchrun.specs.Sessions.{commands_in, lines_printed, replay}
-use Rattle.benchrun.specs.TermFields.{TermsDeclared, TermsStopped}
+use Rattle.load.specs.TermFields.{TermsDeclared, TermsStopped}
 
 -- What the lines say is performed over these terms, in order, and all of it unless lines are left. The answers obey the law of runs, and the text says them.
 pub record LinesPerformed (terms : List Term) (said : List (Option Command)) (t : Transcript) : Type 0 where

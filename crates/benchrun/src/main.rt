@@ -11,7 +11,6 @@ mod performing;
 mod reading;
 mod said;
 mod session;
-mod terms;
 mod transcript;
 
 use crate::transcript::run_session;

@@ -12,8 +12,8 @@ use crate::performing::{is_judge, is_performed};
 use crate::reading::read_lines;
 use crate::said::Said;
 use crate::session::Session;
-use crate::terms::declare_terms;
 use bench::draft::Draft;
+use load::declare::declare_terms;
 use runs::heard::Heard;
 use runs::table_and_span::run_with_table_and_span;
 use search::verdict::Verdict;
@@ -123,7 +123,7 @@ fn write_verdict(heap: Global, verdict: &Verdict) -> Result<String, AllocError>
     ensures { IfOk result (λ text. string_bytes text ≡ finding_lines (value_of verdict.now)) }
 {
     let text = match verdict {
-        Verdict::SetUp { codes } => write_setup(heap, codes.as_slice())?,
+        Verdict::Arrangement { codes } => write_setup(heap, codes.as_slice())?,
         Verdict::Clash { rows } => write_clash(heap, rows.as_slice())?,
     };
     format!(in heap; "{text}\n")

@@ -1,44 +1,41 @@
 // Entries of tables.
-ghost use Rattle.std.specs.Prelude.{◌≡◌};
-ghost use Rattle.congruence.specs.Entries.{answer_of, fits_binary, fits_unary};
+ghost use Rattle.std.specs.Prelude.{◌≡◌, pos};
+ghost use Rattle.congruence.specs.Entries.{entry, fits};
+ghost use Rattle.congruence.specs.declared.entry.Arguments.TheVariants.{Unary};
 
-// What a table answers for one number, or for two.
+// The numbers that a table is asked at: one, or two in their order.
 #[derive(Clone, Copy, Debug, PartialEq, Eq)]
-pub enum Entry {
-    Unary {
-        table: char,
-        argument: i64,
-        answer: i64,
-    },
-    Binary {
-        table: char,
-        first: i64,
-        second: i64,
-        answer: i64,
-    },
+pub enum Arguments {
+    Unary(i64),
+    Binary(i64, i64),
+}
+
+// One value of a table: its letter, the numbers that it is asked at, and the answer.
+#[derive(Clone, Copy, Debug, PartialEq, Eq)]
+pub struct Entry {
+    pub table: char,
+    pub arguments: Arguments,
+    pub answer: i64,
+}
+
+// A record to fill a buffer with before entries are written into it.
+impl Default for Entry {
+    fn default() -> Entry
+        ensures { result ≡ entry 65 (Unary (pos 0)) (pos 0) }
+    {
+        Entry {
+            table: 'A',
+            arguments: Arguments::Unary(0),
+            answer: 0,
+        }
+    }
 }
 
 impl Entry {
-    pub fn answer(self) -> i64
-        ensures { result ≡ answer_of self }
+    // Whether it is what the table with this letter answers at these numbers.
+    pub fn fits(self, table: char, arguments: Arguments) -> bool
+        ensures { result ≡ fits table arguments self }
     {
-        match self {
-            Entry::Unary { answer, .. } | Entry::Binary { answer, .. } => answer,
-        }
-    }
-
-    // Whether it is what the table with this letter answers for this number.
-    pub fn fits_unary(self, letter: char, number: i64) -> bool
-        ensures { result ≡ fits_unary letter number self }
-    {
-        matches!(self, Entry::Unary { table, argument, .. } if table == letter && argument == number)
-    }
-
-    // Whether it is what the table with this letter answers for these two numbers, in this order.
-    pub fn fits_binary(self, letter: char, number: i64, other: i64) -> bool
-        ensures { result ≡ fits_binary letter number other self }
-    {
-        matches!(self, Entry::Binary { table, first, second, .. }
-            if table == letter && first == number && second == other)
+        self.table == table && self.arguments == arguments
     }
 }

@@ -157,3 +157,19 @@ arguments_earlier (t ∷ ts) (suc i) f l =
 pub arguments_are_terms : (ts : List Term) → all_terms_fit ts ≡ true → All (λ t. arguments_below (length ts) t.form ≡ true) ts
 arguments_are_terms ts f =
     λ i d l. subst (λ (t : Term). arguments_below (length ts) t.form ≡ true) (get_or_default ts i zero_term d l) (below_more i (length ts) (get_or ts i zero_term).form (omega arith) (arguments_earlier ts i f l))
+
+-- accepted terms are not too many
+few_with : (before ts : List Term) → terms_fit before ts ≡ true → length before ≤ 32 → length (seats_of before) ≤ 8 → (length (before ++ ts) ≤ 32) × (length (seats_of (before ++ ts)) ≤ 8)
+few_with before [] f l s = subst (λ us. (length us ≤ 32) × (length (seats_of us) ≤ 8)) (sym (append-nil before)) (l, s)
+few_with before (t ∷ ts) f l s =
+    let p = and_parts (is_accepted (term_refusal before t)) (terms_fit (before ++ t ∷ []) ts) f in
+    let none = accepted_none (term_refusal before t) p.0 in
+    let room = (term_passes before t none).room in
+    subst (λ us. (length us ≤ 32) × (length (seats_of us) ≤ 8)) (append_assoc before (t ∷ []) ts)
+    (few_with (before ++ t ∷ []) ts p.1 (omega (arith, length_push before t)) (few_seats before t none s).1)
+
+pub few_fit : (ts : List Term) → all_terms_fit ts ≡ true → (length ts ≤ 32) × (length (seats_of ts) ≤ 8)
+few_fit [] f = (omega arith, omega arith)
+few_fit (u ∷ ts) f =
+    let one : length (seats_of (u ∷ [])) ≤ 8 = cond_both (is_dated u.kind) (0 ∷ []) [] (λ ss. length ss ≤ 8) (λ _. omega arith) (λ _. omega arith) in
+    few_with (u ∷ []) ts (and_parts (is_zero_term u) (terms_fit (u ∷ []) ts) f).1 (omega arith) one

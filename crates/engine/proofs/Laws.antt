@@ -1,18 +1,14 @@
 -- Laws of the rules and of the dates, which engines answer to their interfaces.
-use Rattle.std.specs.Prelude.{◌≡◌, ℕ, ◌<◌, List, [], ◌∷◌, ◌++◌, length, ℤ, pos, ◌-ℤ◌, ◌≤ℤ◌, All}
+use Rattle.std.specs.Prelude.{◌≡◌, ℕ, ◌<◌, List, ◌∷◌, ◌++◌, length, ℤ, pos, ◌-ℤ◌, ◌≤ℤ◌}
 use Rattle.std.proofs.Common.{sym, ◌∙◌, arith}
 use Rattle.std.proofs.lemmas.List.{ext_get_or}
-use Rattle.std.proofs.lemmas.List.Elements.{All-cons, All-head, All-tail}
 use Rattle.std.proofs.lemmas.Int.{ints}
 use Rattle.sheet.specs.declared.row.Row.{Row}
 use Rattle.sheet.specs.declared.term.Term.{Term}
 use Rattle.engine.specs.Dates.{Greatest, GreatestDates}
 use Rattle.engine.specs.Rules.{EqualityHolds, SpanAllowed, SpanHolds, TableAllowed, seat_numbers}
 use Rattle.engine.specs.Terms.{seats_of}
-
-all_without : {X : Type 0} (P : X → Type 0) (front back : List X) (x : X) → All P (front ++ x ∷ back) → All P (front ++ back)
-all_without P [] back x a = All-tail P x back a
-all_without P (y ∷ front) back x a = All-cons P y (front ++ back) (All-head P y (front ++ x ∷ back) a) (all_without P front back x (All-tail P y (front ++ x ∷ back) a))
+use Rattle.engine.proofs.Lists.{all_without}
 
 -- what is allowed stays allowed when a row is left out
 pub span_rule_without : (ts : List Term) (front back : List Row) (r : Row) (codes : List ℕ) → SpanAllowed ts (front ++ r ∷ back) codes → SpanAllowed ts (front ++ back) codes

@@ -10,6 +10,11 @@ all_front P xs ys a k d l = subst P (get_or_append_left xs ys d k l) (a k d (ome
 pub all_back : {X : Type 0} (P : X → Type 0) (xs ys : List X) → All P (xs ++ ys) → All P ys
 all_back P xs ys a k d l = subst P (get_or-append-add xs ys k d) (a (length xs + k) d (omega (arith, length-append xs ys)))
 
+-- and so of those but one
+pub all_without : {X : Type 0} (P : X → Type 0) (front back : List X) (x : X) → All P (front ++ x ∷ back) → All P (front ++ back)
+all_without P [] back x a = All-tail P x back a
+all_without P (y ∷ front) back x a = All-cons P y (front ++ back) (All-head P y (front ++ x ∷ back) a) (all_without P front back x (All-tail P y (front ++ x ∷ back) a))
+
 -- and so of the elements of several lists
 module _ {X Y : Type 0} (P : Y → Type 0) (f : X → List Y) where
   pub all_flat_map : (xs : List X) → All (λ x. All P (f x)) xs → All P (flat_map f xs)

@@ -1,6 +1,6 @@
 -- The seats of a list of terms.
 use Rattle.std.proofs.Common.{◌≡◌, ℕ, zero, suc, ◌+◌, ◌<◌, ◌≤◌, true, false, cond, List, [], ◌∷◌, ◌++◌, length, get_or, drop, count_by, All, ℤ, pos, Contains, sym, refl, ap, ◌∙◌, subst, add-zero, arith}
-use Rattle.std.proofs.lemmas.List.Elements.{All-nil, All-cons, All-weaker, All-get_or}
+use Rattle.std.proofs.lemmas.List.Elements.{All-nil, All-cons, All-weaker, All-get_or, All-contains}
 use Rattle.std.proofs.lemmas.Grind.{get_or_after_one}
 use Rattle.std.proofs.lemmas.List.Sums.{sum_by-cons}
 use Rattle.std.proofs.lemmas.Bool.Decides.{nat_tests}
@@ -37,21 +37,27 @@ dated_push k (u ∷ ts) t =
 pub seats_push : (ts : List Term) (t : Term) → seats_of (ts ++ t ∷ []) ≡ seats_of ts ++ cond (is_dated t.kind) (length ts ∷ []) []
 seats_push ts t = dated_push 0 ts t ∙ ap (λ n. seats_of ts ++ cond (is_dated t.kind) (n ∷ []) []) (omega arith)
 
--- a seat is one of the terms, and each dated term has one
-dated_within : (k : ℕ) (ts : List Term) → All (λ s. (k ≤ s) × (s < k + length ts)) (dated_from k ts)
-dated_within k [] = All-nil _
-dated_within k (t ∷ ts) =
+-- a seat is one of the terms, a dated one
+abbrev DatedFrom : ℕ → List Term → ℕ → Type 0
+DatedFrom k ts s = (i : ℕ) × (i < length ts) × (s ≡ k + i) × (is_dated_at ts i ≡ true)
+
+dated_are : (k : ℕ) (ts : List Term) → All (DatedFrom k ts) (dated_from k ts)
+dated_are k [] = All-nil _
+dated_are k (t ∷ ts) =
     let rest : List ℕ = dated_from (suc k) ts in
-    let later : All (λ s. (k ≤ s) × (s < k + length (t ∷ ts))) rest =
-    All-weaker (λ s. (suc k ≤ s) × (s < suc k + length ts)) (λ s. (k ≤ s) × (s < k + length (t ∷ ts)))
-    (λ s b. let (l, m) = b in (omega arith, omega arith)) rest (dated_within (suc k) ts) in
-    cond_both (is_dated t.kind) (k ∷ rest) rest (All (λ s. (k ≤ s) × (s < k + length (t ∷ ts))))
-    (λ _. All-cons (λ s. (k ≤ s) × (s < k + length (t ∷ ts))) k rest (omega arith, omega arith) later)
-    (λ _. later)
+    let later : All (DatedFrom k (t ∷ ts)) rest =
+    All-weaker (DatedFrom (suc k) ts) (DatedFrom k (t ∷ ts)) (λ s b. let (i, l, e, d) = b in (suc i, omega arith, omega arith, d)) rest (dated_are (suc k) ts) in
+    cond_both (is_dated t.kind) (k ∷ rest) rest (All (DatedFrom k (t ∷ ts))) (λ d. All-cons (DatedFrom k (t ∷ ts)) k rest (0, omega arith, omega arith, d) later) (λ _. later)
 
 pub seats_within : (ts : List Term) → All (λ s. s < length ts) (seats_of ts)
-seats_within ts = All-weaker (λ s. (0 ≤ s) × (s < 0 + length ts)) (λ s. s < length ts) (λ s b. let m = b.1 in omega arith) (seats_of ts) (dated_within 0 ts)
+seats_within ts = All-weaker (DatedFrom 0 ts) (λ s. s < length ts) (λ s b. let (i, l, e, d) = b in omega arith) (seats_of ts) (dated_are 0 ts)
 
+pub seat_is_dated : (ts : List Term) (i : ℕ) → Contains (seats_of ts) i → (i < length ts) × (is_dated_at ts i ≡ true)
+seat_is_dated ts i c =
+    let (j, l, e, d) = All-contains (DatedFrom 0 ts) (seats_of ts) i (dated_are 0 ts) c in
+    let same : j ≡ i = omega arith in (omega arith, subst (λ k. is_dated_at ts k ≡ true) same d)
+
+-- and each dated term has a seat
 dated_has : (k : ℕ) (ts : List Term) (i : ℕ) → i < length ts → is_dated_at ts i ≡ true → Contains (dated_from k ts) (k + i)
 dated_has k [] i l d = absurd (omega arith)
 dated_has k (t ∷ ts) zero l d = subst (λ b. Contains (cond b (k ∷ dated_from (suc k) ts) (dated_from (suc k) ts)) (k + 0)) (sym d) (0, omega arith, sym (add-zero k))
@@ -95,7 +101,7 @@ dates_at_seats k [] dates = λ p l. absurd (omega arith)
 dates_at_seats k (t ∷ ts) dates =
     let rest : List ℕ = dated_from (suc k) ts in
     cond_both (is_dated t.kind) (k ∷ rest) rest (λ ss. DatesAtSeats ss dates)
-    (λ _. dates_at_seats_next k rest dates (All-weaker (λ s. (suc k ≤ s) × (s < suc k + length ts)) (λ s. suc k ≤ s) (λ s b. b.0) rest (dated_within (suc k) ts))
+    (λ _. dates_at_seats_next k rest dates (All-weaker (DatedFrom (suc k) ts) (λ s. suc k ≤ s) (λ s b. let (i, l, e, d) = b in omega arith) rest (dated_are (suc k) ts))
     (dates_at_seats (suc k) ts (drop 1 dates)))
     (λ _. dates_at_seats (suc k) ts dates)
 

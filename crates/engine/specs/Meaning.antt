@@ -11,6 +11,10 @@ use Rattle.engine.specs.Terms.{zero_term}
 abbrev pub Numbers : Type 0
 Numbers = ℕ → ℤ
 
+-- the numbers of a list, one for each term; 0 past its end
+abbrev pub numbers_in : List ℤ → Numbers
+numbers_in xs i = slice_index_or xs i (pos 0)
+
 -- for each letter a function of one whole number, and one of two. A sheet uses one of the two
 pub record Tables : Type 0 where
   pub unary : ℕ → ℤ → ℤ

@@ -1,20 +1,15 @@
--- Over the same rows at most one thing can be found: one arrangement, or one list of places.
-use Rattle.std.proofs.Common.{ℕ, List, ap}
+-- Over the same rows at most one thing can be found, and so told.
+use Rattle.std.proofs.Common.{ℕ, List}
 use Rattle.sheet.specs.declared.row.Row.{Row}
 use Rattle.sheet.specs.declared.term.Term.{Term}
-use Rattle.search.specs.Verdicts.{Judged, arranged, clash}
+use Rattle.search.specs.Verdicts.{Judged}
+use Rattle.search.proofs.Only as search
 use Rattle.runs.specs.Judging.{JudgedTruly}
-use Rattle.search.proofs.Cores.{walk_only}
 use Rattle.runs.proofs.Determined.{OnlyOne}
-use Rattle.search.proofs.Firsts.{first_only}
 
 module _ (first second : List Term → List Row → List ℕ → Type 0) (ts : List Term) where
-  -- an arrangement found first is one that is possible, and a clash is found where none is
   pub judged_only : OnlyOne (Judged first second ts)
-  judged_only rows (arranged cs) (arranged ds) f g = ap arranged (first_only f g)
-  judged_only rows (arranged cs) (clash qs) f g = absurd (g.0 (cs, f.allowed))
-  judged_only rows (clash ps) (arranged ds) f g = absurd (f.0 (ds, g.allowed))
-  judged_only rows (clash ps) (clash qs) f g = ap clash (walk_only f.1.walk g.1.walk)
+  judged_only = search.judged_only first second ts
 
   pub judged_truly_only : OnlyOne (JudgedTruly first second ts)
   judged_truly_only rows f g h k = judged_only rows f g h.0 k.0

@@ -18,7 +18,7 @@ use Rattle.search.proofs.Alike.{allowed_same, said_before}
 use Rattle.search.proofs.Noting.{active, as_many}
 
 -- rows of which none is muted are all active
-active_of : (rows : List Row) → active_rows (map active rows) ≡ rows
+pub active_of : (rows : List Row) → active_rows (map active rows) ≡ rows
 active_of [] = refl
 active_of (r ∷ rows) = ap (λ rs. r ∷ rs) (active_of rows)
 

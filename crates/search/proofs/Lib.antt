@@ -15,3 +15,4 @@ pub mod Marks
 pub mod Noting
 pub mod Turning
 pub mod Walking
+pub mod Only

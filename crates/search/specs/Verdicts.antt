@@ -10,7 +10,7 @@ use Rattle.engine.specs.States.{State, active_rows, with_codes}
 use Rattle.theory.specs.Combining.{AllowedByBoth, Possible}
 use Rattle.search.specs.Unmuted.{standing_state, unmarked}
 use Rattle.search.specs.declared.verdict.Verdict.{Verdict}
-use Rattle.search.specs.declared.verdict.Verdict.TheVariants.{SetUp, Clash}
+use Rattle.search.specs.declared.verdict.Verdict.TheVariants.{Arrangement, Clash}
 
 -- a verdict with its lists
 pub data Finding : Type 0 where
@@ -18,7 +18,7 @@ pub data Finding : Type 0 where
   clash : List ℕ → Finding
 
 abbrev pub value_of : Verdict → Finding
-value_of (SetUp codes) = arranged codes.items
+value_of (Arrangement codes) = arranged codes.items
 value_of (Clash rows) = clash rows.items
 
 -- The walk from row 0 up. `kept` are the rows kept so far, then comes row i and then those after it. Each row in turn is left out; it stays out

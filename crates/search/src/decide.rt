@@ -22,7 +22,7 @@ pub fn decide<F: Engine, S: Engine>(first: &mut F, second: &mut S, standing: &St
     note_standing(first, standing);
     note_standing(second, standing);
     match find_first(first, second) {
-        Some(codes) => Verdict::SetUp { codes },
+        Some(codes) => Verdict::Arrangement { codes },
         None => Verdict::Clash {
             rows: find_clash(first, second, standing.rows().len() as u8),
         },

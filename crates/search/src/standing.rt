@@ -1,6 +1,7 @@
 // The terms and the rows that stand.
 ghost use Rattle.std.specs.Prelude.{◌≡◌, ◌↔◌, ◌<◌, [], ◌∷◌, ◌++◌, true, length, IfOk, IsOk};
 ghost use Rattle.engine.specs.States.{new_state};
+ghost use Rattle.engine.specs.Terms.{seats_of};
 ghost use Rattle.engine.specs.Calls.{unless_refused, without_last};
 ghost use Rattle.engine.specs.Fitting.{row_fits};
 ghost use Rattle.engine.specs.Holding.{state_of};
@@ -41,10 +42,24 @@ impl Standing {
         self.held.terms()
     }
 
+    // The indices of the dated terms.
+    pub fn seats(&self) -> &[u8]
+        ensures { result.now ≡ seats_of (terms_of self.now) }
+    {
+        self.held.seats()
+    }
+
     pub(crate) fn rows(&self) -> &[Noted]
         ensures { result.now ≡ (state_in self.now).rows }
     {
         self.held.rows()
+    }
+
+    // Zero alone, and no row. The room stays.
+    pub fn clear(&mut self)
+        ensures { state_in self.new ≡ new_state }
+    {
+        self.held.renew();
     }
 
     // Adds a term at the end. Rows that stand fit the terms still.

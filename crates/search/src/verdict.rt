@@ -14,7 +14,7 @@ pub type Places = ArrayVec<u8, MAX_ROWS>;
 // A set-up is the word for numbers and tables that make every row true; an arrangement is what is left to find one by.
 #[derive(Debug, Drop, PartialEq, Eq)]
 pub enum Verdict {
-    SetUp { codes: Codes },
+    Arrangement { codes: Codes },
     Clash { rows: Places },
 }
 
@@ -26,10 +26,10 @@ impl Verdict {
         ensures { value_of result ≡ value_of self.now }
     {
         match self {
-            Verdict::SetUp { codes } => {
+            Verdict::Arrangement { codes } => {
                 let mut copy = Codes::new();
                 let _ = copy.try_extend_from_slice(codes.as_slice());
-                Verdict::SetUp { codes: copy }
+                Verdict::Arrangement { codes: copy }
             }
             Verdict::Clash { rows } => {
                 let mut copy = Places::new();

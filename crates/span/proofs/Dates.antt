@@ -10,15 +10,13 @@ use Rattle.graph.specs.Graph.{Solution, at}
 use Rattle.graph.proofs.Deciding.{bounded_among, greatest}
 use Rattle.sheet.specs.declared.row.Row.{Row}
 use Rattle.sheet.specs.declared.row.Row.TheVariants.{Span, Same, Unlike}
-use Rattle.engine.specs.declared.holdings.Holdings.{Holdings}
 use Rattle.engine.specs.Dates.{CountedHolds, GreatestDates, RightDates, date_at}
-use Rattle.engine.specs.Holding.{state_of}
 use Rattle.engine.specs.Meaning.{Numbers}
 use Rattle.engine.specs.Placing.{placed_seats}
 use Rattle.engine.specs.Rules.{SpanFits, SpanHolds, seat_numbers}
 use Rattle.engine.specs.States.{State, active_rows}
 use Rattle.engine.specs.Terms.{seats_of}
-use Rattle.engine.proofs.Bounds.{bounds}
+use Rattle.engine.proofs.Bounds.{Bounds}
 use Rattle.engine.proofs.Ranks.{length_ranks}
 use Rattle.engine.proofs.Seats.{seat_of_zero, seats_within}
 use Rattle.span.specs.Constraints.{order_edges, row_edges}
@@ -55,10 +53,7 @@ cut_same v t h = grind (arith, ints)
 cut_low : (v : Numbers) (t : ℕ) → cut_off v t ≤ℤ pos 0
 cut_low v t = grind (arith, ints)
 
-module _ (h : Holdings) (stable : becomes_stable_of (state_of h) ≡ true) where
-  abbrev s : State
-  s = state_of h
-
+module _ {s : State} (held : Bounds s) (stable : becomes_stable_of s ≡ true) where
   abbrev ss : List ℕ
   ss = seats_of s.terms
 
@@ -69,25 +64,25 @@ module _ (h : Holdings) (stable : becomes_stable_of (state_of h) ≡ true) where
   d = distances_of s
 
   best : LowSolution 32 es (at d) × ((x : ℕ → ℤ) → LowSolution 32 es x → AtMost 32 x (at d))
-  best = greatest 32 (length ss) es (within h) stable
+  best = greatest 32 (length ss) es (within held) stable
 
   pub fitting : SpanFits s.terms (active_rows s.rows) s.codes (at d)
-  fitting = solutions_fit (at d) s.terms s.codes (bounds h).placed (active_rows s.rows) best.0.0
+  fitting = solutions_fit (at d) s.terms s.codes held.placed (active_rows s.rows) best.0.0
 
   pub all_in_limits : All (InLimits d) ss
   all_in_limits =
       All-weaker (Contains ss) (InLimits d)
       (λ t has.
-      let few = (bounds h).terms in
+      let few = held.terms in
       let low = All-contains (λ x. x < length s.terms) ss t (seats_within s.terms) has in
       let i : t < 32 = omega arith in
-      let b = bounded_among 32 (length ss) 1000000 ss es (within h) (edges_among ss es (edges_fit h)) (at d, best.0.0) (edges_heavier ss es (edges_fit h)) t i has in
-      let m : pred (length ss) ≤ 7 = omega (arith, (bounds h).seats) in
+      let b = bounded_among 32 (length ss) 1000000 ss es (within held) (edges_among ss es (edges_fit held)) (at d, best.0.0) (edges_heavier ss es (edges_fit held)) t i has in
+      let m : pred (length ss) ≤ 7 = omega (arith, held.seats) in
       (i, omega (arith, ints), best.0.1 t i))
       ss (All-contains_itself ss)
 
   pub zero_in_limits : InLimits d 0
-  zero_in_limits = let z = seat_of_zero s.terms h.terms_fit in subst (InLimits d) z.1 (All-get_or (InLimits d) ss 0 0 z.0 all_in_limits)
+  zero_in_limits = let z = seat_of_zero s.terms held.terms_fit in subst (InLimits d) z.1 (All-get_or (InLimits d) ss 0 0 z.0 all_in_limits)
 
   low_at : (p : ℕ) → p < length ss → InLimits d (slice_index ss p)
   low_at p l = All-get_or (InLimits d) ss p 0 l all_in_limits
@@ -96,10 +91,10 @@ module _ (h : Holdings) (stable : becomes_stable_of (state_of h) ≡ true) where
   lower v f low p l =
       let same : (t : ℕ) → Contains ss t → cut_off v t ≡ v t = λ t has. cut_same v t (All-contains (λ x. v x ≤ℤ pos 0) ss t (All-from_get_or (λ x. v x ≤ℤ pos 0) ss 0 low) has) in
       let solves : Solution es (cut_off v) = (λ k e i.
-      let fit = edges_fit h k e i in
+      let fit = edges_fit held k e i in
       let a = same (get_or es k e).to fit.0 in
       let b = same (get_or es k e).from fit.1 in
-      let holds = fits_solve v s.terms s.codes (bounds h).placed (active_rows s.rows) f k e i in
+      let holds = fits_solve v s.terms s.codes held.placed (active_rows s.rows) f k e i in
       omega (arith, ints)) in
       let t = slice_index ss p in
       let m : cut_off v t ≤ℤ at d t = best.1 (cut_off v) (solves, λ t _. cut_low v t) t (low_at p l).0 in
@@ -117,7 +112,7 @@ module _ (h : Holdings) (stable : becomes_stable_of (state_of h) ≡ true) where
       greatest = lower;
     };
     each = length-map ss (λ t. at d t -ℤ at d 0);
-    from_zero = λ p l. seat_date p l ∙ ap (λ t. seat_numbers s.terms (at d) p -ℤ at d t) (sym (seat_of_zero s.terms h.terms_fit).1);
+    from_zero = λ p l. seat_date p l ∙ ap (λ t. seat_numbers s.terms (at d) p -ℤ at d t) (sym (seat_of_zero s.terms held.terms_fit).1);
   }
 
   -- a counted row holds of the dates
@@ -135,7 +130,7 @@ module _ (h : Holdings) (stable : becomes_stable_of (state_of h) ≡ true) where
 
   pub right : RightDates counts_spans s (from_zero d ss)
   right =
-      let z = seat_of_zero s.terms h.terms_fit in
+      let z = seat_of_zero s.terms held.terms_fit in
       let n = length-map ss (λ t. at d t -ℤ at d 0) in
       let first = seat_date 0 z.0 ∙ ap (λ t. at d t -ℤ at d 0) z.1 in
       record {
@@ -149,17 +144,17 @@ module _ (h : Holdings) (stable : becomes_stable_of (state_of h) ≡ true) where
         zero_first = omega (arith, ints);
         ordered = record {
           same = λ p q i j e.
-              let placed = (bounds h).placed in
+              let placed = held.placed in
               let x = seat_date p (omega (arith, length_ranks s.codes)) in
               let y = seat_date q (omega (arith, length_ranks s.codes)) in
               let k = fitting.ordered.same p q i j e in
               omega (arith, ints);
           less = λ p q i j e.
-              let placed = (bounds h).placed in
+              let placed = held.placed in
               let x = seat_date p (omega (arith, length_ranks s.codes)) in
               let y = seat_date q (omega (arith, length_ranks s.codes)) in
               let k = fitting.ordered.less p q i j e in
               omega (arith, ints);
         };
-        hold = rows_dated (active_rows s.rows) (all_front (EdgeFits ss) (row_edges (active_rows s.rows)) (order_edges (placed_seats s)) (edges_fit h)) fitting.hold;
+        hold = rows_dated (active_rows s.rows) (all_front (EdgeFits ss) (row_edges (active_rows s.rows)) (order_edges (placed_seats s)) (edges_fit held)) fitting.hold;
       }

@@ -2,6 +2,6 @@ mod Parts
 mod Pairs
 mod Solutions
 mod Limits
-mod Opening
-mod Dates
+pub mod Opening
+pub mod Dates
 mod Rounds

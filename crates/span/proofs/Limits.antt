@@ -9,15 +9,13 @@ use Rattle.graph.specs.Claims.{Among, WeightsAtLeast}
 use Rattle.sheet.specs.declared.row.Row.{Row}
 use Rattle.sheet.specs.declared.row.Row.TheVariants.{Span, Same, Unlike}
 use Rattle.sheet.specs.declared.term.Term.{Term}
-use Rattle.engine.specs.declared.holdings.Holdings.{Holdings}
 use Rattle.engine.specs.declared.placed.Placed.{Placed}
 use Rattle.engine.specs.EachPair.{each_pair}
 use Rattle.engine.specs.Fitting.{row_fits}
-use Rattle.engine.specs.Holding.{state_of}
 use Rattle.engine.specs.Placing.{placed_seats}
-use Rattle.engine.specs.States.{active_rows}
+use Rattle.engine.specs.States.{State, active_rows}
 use Rattle.engine.specs.Terms.{is_dated_at, seats_of}
-use Rattle.engine.proofs.Bounds.{bounds}
+use Rattle.engine.proofs.Bounds.{Bounds}
 use Rattle.engine.proofs.Fitting.{all_active, each_row_fits}
 use Rattle.engine.proofs.Lists.{all_flat_map}
 use Rattle.engine.proofs.Placing.{all_placed_pairs, placed_seat}
@@ -54,25 +52,24 @@ pair_fits ss p q h k = go (nat_lt p.rank q.rank) (nat_lt q.rank p.rank)
     go false false = All-cons (EdgeFits ss) (edge p.term q.term (pos 0)) (edge q.term p.term (pos 0) ∷ []) (h, k, omega (arith, ints)) (All-cons (EdgeFits ss) (edge q.term p.term (pos 0)) [] (k, h, omega (arith, ints)) (All-nil _))
 
 -- of what an engine holds
-pub edges_fit : (h : Holdings) → All (EdgeFits (seats_of (state_of h).terms)) (constraints_of (state_of h))
-edges_fit h =
-    let s = state_of h in
+pub edges_fit : {s : State} (held : Bounds s) → All (EdgeFits (seats_of s.terms)) (constraints_of s)
+edges_fit {s} held =
     let ss = seats_of s.terms in
-    let placed = (bounds h).placed in
+    let placed = held.placed in
     let few = length_ranks s.codes in
     let pairs = each_pair (placed_seats s) in
-    All-append (EdgeFits ss) (row_edges (active_rows s.rows)) (order_edges (placed_seats s)) (rows_fit s.terms (active_rows s.rows) (all_active (λ r. row_fits s.terms r ≡ true) s.rows (each_row_fits s.terms s.rows h.rows_fit)))
+    All-append (EdgeFits ss) (row_edges (active_rows s.rows)) (order_edges (placed_seats s)) (rows_fit s.terms (active_rows s.rows) (all_active (λ r. row_fits s.terms r ≡ true) s.rows (each_row_fits s.terms s.rows held.rows_fit)))
     (all_flat_map (EdgeFits ss) pair_edges pairs
     (all_placed_pairs s.terms s.codes placed (λ x. All (EdgeFits ss) (pair_edges x))
     (λ p q b l. pair_fits ss (placed_seat s.terms s.codes p) (placed_seat s.terms s.codes q) (Contains-get_or ss p 0 (omega arith)) (Contains-get_or ss q 0 (omega arith)))))
 
-pub within : (h : Holdings) → Within 32 (constraints_of (state_of h))
-within h =
-    let ts = (state_of h).terms in
-    let few = (bounds h).terms in
+pub within : {s : State} (held : Bounds s) → Within 32 (constraints_of s)
+within {s} held =
+    let ts = s.terms in
+    let few = held.terms in
     All-weaker (EdgeFits (seats_of ts)) (λ e. (e.to < 32) × (e.from < 32))
     (λ e f. let x = All-contains (λ s. s < length ts) (seats_of ts) e.to (seats_within ts) f.0 in let y = All-contains (λ s. s < length ts) (seats_of ts) e.from (seats_within ts) f.1 in (omega arith, omega arith))
-    (constraints_of (state_of h)) (edges_fit h)
+    (constraints_of s) (edges_fit held)
 
 pub edges_among : (ss : List ℕ) (es : List Edge) → All (EdgeFits ss) es → Among ss es
 edges_among ss es a = All-weaker (EdgeFits ss) (λ e. Contains ss e.to × Contains ss e.from) (λ e f. (f.0, f.1)) es a

@@ -4,12 +4,10 @@ use Rattle.std.proofs.Common.{arith, inl, inr}
 use Rattle.std.proofs.lemmas.Bool.{cases_Bool}
 use Rattle.graph.specs.Claims.{Decided}
 use Rattle.graph.proofs.Deciding.{exact_among}
-use Rattle.engine.specs.declared.holdings.Holdings.{Holdings}
-use Rattle.engine.specs.Holding.{state_of}
 use Rattle.engine.specs.Rules.{SpanAllowed, seat_numbers}
 use Rattle.engine.specs.States.{Completion, State, active_rows}
 use Rattle.engine.specs.Terms.{seats_of}
-use Rattle.engine.proofs.Bounds.{bounds}
+use Rattle.engine.proofs.Bounds.{Bounds}
 use Rattle.engine.proofs.Following.{front_extended, in_order_front}
 use Rattle.span.specs.Decisions.{DecisionOf, becomes_stable_of, constraints_of}
 use Rattle.span.proofs.Limits.{edges_among, edges_fit, within}
@@ -26,20 +24,17 @@ begun s k =
     let f = k.allowed.1 in
     (v, record { hold = f.hold; ordered = in_order_front s.codes k.rest (seat_numbers s.terms v) f.ordered })
 
-module _ (h : Holdings) where
-  abbrev s : State
-  s = state_of h
-
+module _ {s : State} (held : Bounds s) where
   pub decided : DecisionOf s (becomes_stable_of s)
   decided =
       let rows = active_rows s.rows in
       let ss = seats_of s.terms in
       let es = constraints_of s in
-      let d : Decided 32 (length ss) es = exact_among 32 (length ss) ss es (within h) (edges_among ss es (edges_fit h)) (omega arith) in
+      let d : Decided 32 (length ss) es = exact_among 32 (length ss) ss es (within held) (edges_among ss es (edges_fit held)) (omega arith) in
       record {
         rounds = refl;
-        solved = λ e. ((d.0 e).0, solutions_fit (d.0 e).0 s.terms s.codes (bounds h).placed rows (d.0 e).1);
-        unsolved = λ e v f. d.4 (d.1 e) (v, fits_solve v s.terms s.codes (bounds h).placed rows f);
+        solved = λ e. ((d.0 e).0, solutions_fit (d.0 e).0 s.terms s.codes held.placed rows (d.0 e).1);
+        unsolved = λ e v f. d.4 (d.1 e) (v, fits_solve v s.terms s.codes held.placed rows f);
         cycle = d.1;
         no_cycle = λ e c. d.4 c (d.0 e);
       }
@@ -47,7 +42,7 @@ module _ (h : Holdings) where
   -- numbers that fit the codes placed extend to an allowed arrangement
   pub opened : Allowed s → Completion SpanAllowed s
   opened (v, f) =
-      let e = front_extended (length (seats_of s.terms)) s.codes (seat_numbers s.terms v) (bounds h).placed h.codes_valid f.ordered in
+      let e = front_extended (length (seats_of s.terms)) s.codes (seat_numbers s.terms v) held.placed held.codes_valid f.ordered in
       record { rest = e.0; full = e.1; allowed = (v, record { hold = f.hold; ordered = e.2 }) }
 
   pub open_exactly : (r : Bool) → DecisionOf s r → IsTrue r ↔ Completion SpanAllowed s

@@ -11,11 +11,9 @@ use Rattle.congruence.specs.Classes.{class_numbers, class_of}
 use Rattle.congruence.specs.Closure.{in_one_class}
 use Rattle.congruence.specs.Entries.{entries_of, tables_of}
 use Rattle.congruence.proofs.Exact.{ClassModel, closure_model}
-use Rattle.engine.specs.declared.holdings.Holdings.{Holdings}
 use Rattle.engine.specs.declared.placed.Placed.{Placed}
 use Rattle.engine.specs.Arrangements.{EqualInBlocks, ranks}
 use Rattle.engine.specs.EachPair.{each_pair}
-use Rattle.engine.specs.Holding.{state_of}
 use Rattle.engine.specs.Equalities.{AlwaysEqual, Equates, SameHolds}
 use Rattle.engine.specs.Meaning.{Numbers}
 use Rattle.engine.specs.Placing.{placed_seats}
@@ -24,7 +22,7 @@ use Rattle.engine.specs.Rules.{EqualityHolds, TableAllowed, seat_numbers}
 use Rattle.engine.specs.States.{Completion, State, active_rows}
 use Rattle.engine.specs.Terms.{seats_of}
 use Rattle.engine.proofs.Allowing.{allowed_equates}
-use Rattle.engine.proofs.Bounds.{bounds}
+use Rattle.engine.proofs.Bounds.{Bounds}
 use Rattle.engine.proofs.Completing.{blocks_extended}
 use Rattle.engine.proofs.EachPair.{either_way}
 use Rattle.engine.proofs.Following.{blocks_front}
@@ -36,7 +34,7 @@ use Rattle.table.proofs.Below.{active_below, seat_below}
 use Rattle.table.proofs.Equating.{by_choices, exact, pairs_equate}
 
 -- the test that the code makes
-abbrev is_consistent : State → Bool
+abbrev pub is_consistent : State → Bool
 is_consistent s = rows_apart (classes_of s) (active_rows s.rows) && blocks_apart (classes_of s) (placed_seats s)
 
 apart_differ : (cl : List ℕ) (i j : ℕ) → in_one_class cl i j ≡ false → class_numbers cl i ≡ class_numbers cl j → ⊥
@@ -78,10 +76,7 @@ unlike_kept v equal (Span i j c) f h = tt
 unlike_kept v equal (Same i j) f h = tt
 unlike_kept v equal (Unlike i j) f h = λ e. h (f i j e)
 
-module _ (h : Holdings) where
-  abbrev s : State
-  s = state_of h
-
+module _ {s : State} (held : Bounds s) where
   abbrev cl : List ℕ
   cl = classes_of s
 
@@ -97,7 +92,7 @@ module _ (h : Holdings) where
       → get_or rs p 0 ≡ get_or rs q 0
   one_block apart p q b l e =
       let test : two_apart cl (placed_seat s.terms s.codes p, placed_seat s.terms s.codes q) ≡ true =
-      placed_pair_at s.terms s.codes (bounds h).placed (λ x. two_apart cl x ≡ true) (AllPass-from_list_all (two_apart cl) (each_pair ps) apart) p q b l in
+      placed_pair_at s.terms s.codes held.placed (λ x. two_apart cl x ≡ true) (AllPass-from_list_all (two_apart cl) (each_pair ps) apart) p q b l in
       let one : class_of cl (get_or (seats_of s.terms) p 0) ≡ class_of cl (get_or (seats_of s.terms) q 0) = omega (arith, ints) in
       grind (arith, nat_tests)
 
@@ -109,12 +104,12 @@ module _ (h : Holdings) where
       let test = and_parts (rows_apart cl rows) (blocks_apart cl ps) c in
       let model : ClassModel s.terms (equal_pairs s) cl = closure_model 32 s.terms (equal_pairs s) in
       let m = tables_of (entries_of s.terms v) in
-      let e : Equates s.terms rows s.codes m v = pairs_equate h m v model.interprets model.equal in
+      let e : Equates s.terms rows s.codes m v = pairs_equate held m v model.interprets model.equal in
       let blocks : EqualInBlocks rs (seat_numbers s.terms v) = record {
         same = e.blocks;
         apart = either_way (λ p q. seat_numbers s.terms v p ≡ seat_numbers s.terms v q → get_or rs p 0 ≡ get_or rs q 0) (length rs) (λ p t. refl) (λ p q f t. sym (f (sym t))) (one_block test.1);
       } in
-      let more = blocks_extended (length (seats_of s.terms)) s.codes (seat_numbers s.terms v) (bounds h).placed h.codes_valid blocks in
+      let more = blocks_extended (length (seats_of s.terms)) s.codes (seat_numbers s.terms v) held.placed held.codes_valid blocks in
       record {
         rest = more.0;
         full = more.1;
@@ -141,7 +136,7 @@ module _ (h : Holdings) where
 
   -- and what is apart is of different classes
   one_class_equal : (i j : ℕ) → i < 32 → j < 32 → class_of cl i ≡ class_of cl j → AlwaysEqual s.terms (active_rows s.rows) s.codes i j
-  one_class_equal i j li lj c = by_choices h i j ((exact h).equal i j li lj c)
+  one_class_equal i j li lj c = by_choices held i j ((exact held).equal i j li lj c)
 
   two_blocks : KeptApart s → (p q : ℕ) → p < q → q < length rs
       → two_apart cl (placed_seat s.terms s.codes p, placed_seat s.terms s.codes q) ≡ true
@@ -153,7 +148,7 @@ module _ (h : Holdings) where
         | inl e ↦ let same : eqb (get_or rs q 0) (get_or rs p 0) ≡ true = eq-eqb (get_or rs q 0) (get_or rs p 0) e in grind arith
         | inr d ↦ elim (cases_Bool (in_one_class cl t u)) [
           | inr n ↦ grind arith
-          | inl y ↦ absurd (kept.blocks p q lp l (λ e. d (sym e)) (one_class_equal t u (seat_below h p lp) (seat_below h q l) (eqb-true (class_of cl t) (class_of cl u) y)))
+          | inl y ↦ absurd (kept.blocks p q lp l (λ e. d (sym e)) (one_class_equal t u (seat_below held p lp) (seat_below held q l) (eqb-true (class_of cl t) (class_of cl u) y)))
         ]
       ]
 
@@ -161,8 +156,8 @@ module _ (h : Holdings) where
   apart_consistent kept =
       let rows = active_rows s.rows in
       and_from (rows_apart cl rows) (blocks_apart cl ps)
-      (kept_rows cl (AlwaysEqual s.terms rows s.codes) 32 rows one_class_equal (active_below h) kept.rows)
-      (list_all-from_AllPass (two_apart cl) (each_pair ps) (all_placed_pairs s.terms s.codes (bounds h).placed (λ x. two_apart cl x ≡ true) (two_blocks kept)))
+      (kept_rows cl (AlwaysEqual s.terms rows s.codes) 32 rows one_class_equal (active_below held) kept.rows)
+      (list_all-from_AllPass (two_apart cl) (each_pair ps) (all_placed_pairs s.terms s.codes held.placed (λ x. two_apart cl x ≡ true) (two_blocks kept)))
 
   -- what the code decides, in three ways
   pub record Decided (r : Bool) : Type 0 where

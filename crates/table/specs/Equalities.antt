@@ -1,24 +1,11 @@
--- The classes of the terms that the same rows and the blocks make equal, and what is kept apart.
-use Rattle.std.specs.Prelude.{◌≡◌, ℕ, ◌<◌, ◌≤◌, ◌↔◌, List, length, slice_index, All}
+-- What the same rows and the blocks keep apart.
+use Rattle.std.specs.Prelude.{◌≡◌, ℕ, ◌<◌, length, slice_index, All}
 use Rattle.sheet.specs.declared.row.Row.{Row}
 use Rattle.sheet.specs.declared.row.Row.TheVariants.{Span, Same, Unlike}
-use Rattle.sheet.specs.declared.term.Term.{Term}
 use Rattle.engine.specs.Arrangements.{ranks}
 use Rattle.engine.specs.Equalities.{AlwaysEqual}
 use Rattle.engine.specs.States.{State, active_rows}
 use Rattle.engine.specs.Terms.{seats_of}
-
--- c is the least of the terms that are always equal to t
-pub record LeastEqual (ts : List Term) (rows : List Row) (codes : List ℕ) (t c : ℕ) : Type 0 where
-  pub equal : AlwaysEqual ts rows codes c t
-  pub least : (b : ℕ) → b < length ts → AlwaysEqual ts rows codes b t → c ≤ b
-
--- the class of each term of the state is named by the least term that is always equal to it; so two terms have one class exactly where
--- they are always equal
-pub record EqualityClasses (s : State) (classes : List ℕ) : Type 0 where
-  pub each : length classes ≡ length s.terms
-  pub named : (t : ℕ) → t < length s.terms → LeastEqual s.terms (active_rows s.rows) s.codes t (slice_index classes t)
-  pub exact : (a b : ℕ) → a < length s.terms → b < length s.terms → (slice_index classes a ≡ slice_index classes b) ↔ AlwaysEqual s.terms (active_rows s.rows) s.codes a b
 
 -- the terms of an unlike row are not always equal; of the other rows nothing is asked
 abbrev pub RowKeptApart : (ℕ → ℕ → Type 0) → Row → Type 0

@@ -1,10 +1,11 @@
 // The table engine: whether the same and unlike rows and the blocks can be met, and which terms are equal.
 ghost use Rattle.std.specs.Prelude.{◌≡◌, ◌↔◌, IsTrue, IfOk};
+ghost use Rattle.engine.specs.Equalities.{EqualityClasses};
 ghost use Rattle.engine.specs.Placing.{placed_seats};
 ghost use Rattle.engine.specs.Rules.{TableAllowed};
 ghost use Rattle.engine.specs.States.{Completion, active_rows, new_state};
 ghost use Rattle.table.specs.Decisions.{classes_of};
-ghost use Rattle.table.specs.Equalities.{EqualityClasses, KeptApart};
+ghost use Rattle.table.specs.Equalities.{KeptApart};
 ghost use Rattle.table.specs.TableState.{state_in};
 
 use crate::classes::Classes;

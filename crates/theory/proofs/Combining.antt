@@ -33,7 +33,7 @@ equality_holds v (Same i j) h = h
 equality_holds v (Unlike i j) h = h
 
 -- and each row is looked at by one of them, spans being on instants
-spans_on_dated : (ts : List Term) (i j : ℕ) (c : ℤ) → row_fits ts (Span i j c) ≡ true → on_dated ts (Span i j c) ≡ true
+pub spans_on_dated : (ts : List Term) (i j : ℕ) (c : ℤ) → row_fits ts (Span i j c) ≡ true → on_dated ts (Span i j c) ≡ true
 spans_on_dated ts i j c fits = grind (arith, nat_tests)
 
 each_holds : (ts : List Term) (x w : Numbers) (r : Row) → row_fits ts r ≡ true → EqualityHolds w r → StillHolds ts x w r → SpanHolds x r → Holds w r

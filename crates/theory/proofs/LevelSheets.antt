@@ -5,13 +5,13 @@ use Rattle.std.proofs.lemmas.Int.{ints}
 use Rattle.std.proofs.lemmas.List.Elements.{All-from_recursion}
 use Rattle.sheet.specs.declared.row.Row.{Row}
 use Rattle.engine.specs.Arrangements.{Arrangement, InOrder, ranks}
-use Rattle.engine.specs.Meaning.{Holds, Interprets, Numbers, Satisfiable}
+use Rattle.engine.specs.Meaning.{Holds, Interprets, Numbers, Satisfiable, numbers_in}
 use Rattle.engine.specs.Parts.{InstantsMet, LevelsMet}
 use Rattle.engine.specs.Rules.{EqualityHolds, SpanAllowed, SpanHolds, TableAllowed, seat_numbers}
 use Rattle.engine.specs.Terms.{seats_of}
 use Rattle.engine.proofs.Allowing.{instants_allowed, levels_allowed}
 use Rattle.theory.specs.Combining.{AllowedByBoth}
-use Rattle.theory.specs.Sheets.{level_terms, numbers_in}
+use Rattle.theory.specs.Sheets.{level_terms}
 use Rattle.theory.proofs.Checking.{adding_10, in_order, interpreted}
 
 -- x and b have these numbers, a has 4, and each level 10 more than its instant

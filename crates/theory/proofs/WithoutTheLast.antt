@@ -5,14 +5,14 @@ use Rattle.std.proofs.lemmas.Int.{ints}
 use Rattle.std.proofs.lemmas.List.Elements.{All-from_recursion}
 use Rattle.sheet.specs.declared.row.Row.{Row}
 use Rattle.engine.specs.Equalities.{AlwaysEqual, Equates, SameHolds}
-use Rattle.engine.specs.Meaning.{Numbers}
+use Rattle.engine.specs.Meaning.{Numbers, numbers_in}
 use Rattle.engine.specs.Rules.{SpanAllowed, TableAllowed}
 use Rattle.engine.specs.States.{active_rows}
 use Rattle.congruence.proofs.Interpreting.{congruence_is_needed}
 use Rattle.theory.specs.Accepted.{Accepted, NotedAccepted}
 use Rattle.theory.specs.Combining.{AllowedByBoth}
 use Rattle.theory.specs.Models.{EqualityModel}
-use Rattle.theory.specs.Sheets.{from_4_to, level_terms, numbers_in, numbers_with_b, without_the_last, x_with_b}
+use Rattle.theory.specs.Sheets.{from_4_to, level_terms, numbers_with_b, without_the_last, x_with_b}
 use Rattle.theory.proofs.Checking.{adding_10, each_below}
 use Rattle.theory.proofs.Combining.{chosen_accepted}
 use Rattle.theory.proofs.Sufficing.{classes_suffice}

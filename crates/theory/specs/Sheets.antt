@@ -1,5 +1,5 @@
 -- Sheets on which the theorems are tried.
-use Rattle.std.specs.Prelude.{ℕ, ◌-◌, Bool, true, false, not, List, [], ◌∷◌, length, map, filter, ℤ, pos, neg_ℤ, slice_index_or}
+use Rattle.std.specs.Prelude.{ℕ, ◌-◌, Bool, true, false, not, List, [], ◌∷◌, length, map, filter, ℤ, pos, neg_ℤ}
 use Rattle.sheet.specs.declared.row.Row.{Row}
 use Rattle.sheet.specs.declared.row.Row.TheVariants.{Span, Same, Unlike}
 use Rattle.sheet.specs.declared.term.Form.TheVariants.{Name, One}
@@ -7,7 +7,6 @@ use Rattle.sheet.specs.declared.term.Kind.TheVariants.{Dated, Level}
 use Rattle.sheet.specs.declared.term.Term.{Term}
 use Rattle.engine.specs.declared.noted.Noted.{Noted}
 use Rattle.engine.specs.Calls.{rows_with_mark}
-use Rattle.engine.specs.Meaning.{Numbers}
 use Rattle.engine.specs.Rows.{RowKind}
 use Rattle.engine.specs.States.{State}
 use Rattle.engine.specs.Terms.{zero_term}
@@ -77,10 +76,6 @@ counts_all k = true
 -- what an engine holds
 abbrev pub holding : List Row → List ℕ → State
 holding rows codes = record { terms = level_terms; rows = noted_rows rows; codes = codes }
-
--- a number for each term, as a list
-abbrev pub numbers_in : List ℤ → Numbers
-numbers_in xs i = slice_index_or xs i (pos 0)
 
 -- zero and the instants x, y and z
 abbrev pub three_terms : List Term

@@ -3,13 +3,13 @@
 ghost use Rattle.std.specs.Prelude.{◌≡◌, All, pos};
 ghost use Rattle.engine.specs.Arrangements.{Arrangement};
 ghost use Rattle.engine.specs.Dates.{RightDates};
-ghost use Rattle.engine.specs.Meaning.{Holds, Satisfiable};
+ghost use Rattle.engine.specs.Meaning.{Holds, Satisfiable, numbers_in};
 ghost use Rattle.engine.specs.Rules.{SpanAllowed, TableAllowed};
 ghost use Rattle.engine.specs.States.{active_rows};
 ghost use Rattle.theory.specs.Accepted.{Accepted, NotedAccepted};
 ghost use Rattle.theory.specs.Combining.{AllowedByBoth, Possible};
 ghost use Rattle.theory.specs.Models.{DatedModel, EqualityModel};
-ghost use Rattle.theory.specs.Sheets.{counts_all, dates_between, each_past, equalities_of, from_4_to, holding, in_two_ticks, level_terms, numbers_in};
+ghost use Rattle.theory.specs.Sheets.{counts_all, dates_between, each_past, equalities_of, from_4_to, holding, in_two_ticks, level_terms};
 ghost use Rattle.theory.specs.Sheets.{numbers_with_b, spans_of, three_terms, without_the_last, x_between, x_past_both, x_with_a, x_with_b};
 ghost use Rattle.theory.specs.Unsound.{NoEqualityImplied, SpanAllowedInBlocks};
 

@@ -1,4 +1,4 @@
-use Rattle.std.proofs.Common.{◌≡◌, ◌++◌, [], true, refl, arith, false, length, drop, take, sym, subst, ap, ◌∙◌}
+use Rattle.std.proofs.Common.{◌++◌, [], arith, false, length, drop, take, sym, subst, ap, ◌∙◌}
 use Rattle.std.proofs.Math.ListN.{drop_of_length-le}
 use Rattle.std.proofs.lemmas.Bool.{ltb-false, ltb-true}
 use Rattle.std.proofs.lemmas.List.{take-append-drop, length-drop}
@@ -7,7 +7,6 @@ use Rattle.engine.specs.Rules.{SpanAllowed, TableAllowed}
 use Rattle.runs.specs.Judging.{JudgedTruly}
 use Rattle.runs.specs.Law.{Run, open_with}
 use Rattle.runs.specs.Stages.{status_of}
-use Rattle.benchrun.specs.Histories.{history_of}
 use Rattle.runs.specs.Heard.{answers_heard}
 use Rattle.benchrun.specs.Sessions.{lines_printed}
 use Rattle.benchrun.proofs.transcript.perform_lines.Goals as goal

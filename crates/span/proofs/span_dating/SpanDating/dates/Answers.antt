@@ -17,11 +17,10 @@ dates_from_distances-requires c =
     let h = c.args.self.now.held in
     let stable : becomes_stable_of (state_of h) ≡ true = grind arith in
     let is : c.in-Some.distances ≡ distances_of (state_of h) = grind arith in
-    let b = bounds h in
     record {
-      few = omega (arith, ap length c.seats-seats.ensures);
-      zero = rw is (zero_in_limits h stable);
-      each = rw (is, c.seats-seats.ensures) (all_in_limits h stable);
+      few = omega (arith, (bounds h).seats, ap length c.seats-seats.ensures);
+      zero = rw is (zero_in_limits (bounds h) stable);
+      each = rw (is, c.seats-seats.ensures) (all_in_limits (bounds h) stable);
     }
 
 pub returns-in-Some : goal.returns-in-Some
@@ -33,9 +32,9 @@ returns-in-Some c =
     let given : c.dates_from_distances.result.items ≡ from_zero (distances_of s) (seats_of s.terms) = c.dates_from_distances.ensures ∙ (λ i. from_zero (is i) (c.seats-seats.ensures i)) in
     record {
       placed = cc;
-      allowed = opened h (at (distances_of s), fitting h stable);
-      right = subst (RightDates counts_spans s) (sym given) (right h stable);
-      picked = subst (GreatestDates s.terms (active_rows s.rows) s.codes) (sym given) (picked h stable);
+      allowed = opened (bounds h) (at (distances_of s), fitting (bounds h) stable);
+      right = subst (RightDates counts_spans s) (sym given) (right (bounds h) stable);
+      picked = subst (GreatestDates s.terms (active_rows s.rows) s.codes) (sym given) (picked (bounds h) stable);
     }
 
 pub returns-in_default : goal.returns-in_default
@@ -48,7 +47,7 @@ returns-in_default c =
             | in_default-via-in_default w ↦
                 let unstable : becomes_stable_of (state_of h) ≡ false = grind arith in
                 let v = begun (state_of h) k in
-                (decided h).unsolved unstable v.0 v.1
+                (decided (bounds h)).unsolved unstable v.0 v.1
           ];
       answered = c.in_layer.ensures;
     }

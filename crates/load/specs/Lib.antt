@@ -1,0 +1,3 @@
+pub mod TermFields
+pub mod Loading
+pub mod Entering

@@ -1,0 +1,5 @@
+#![tactic(auto)]
+// Loads a sheet into a bench.
+pub mod declare;
+mod enter;
+pub mod load;

@@ -1,0 +1,2 @@
+pub mod Reference
+pub mod Worked

@@ -1,0 +1,3 @@
+#![tactic(auto)]
+// A reference for the definitions, which the checker itself computes: what is answered to terms and rows, and worked sheets. It has no code.
+pub mod theorems;

@@ -1,0 +1,4 @@
+pub mod Groups
+pub mod Solutions
+pub mod Reading
+pub mod Parts
