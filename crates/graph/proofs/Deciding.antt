@@ -48,7 +48,7 @@ module _ (n : ℕ) (es : List Edge) (within : Within n es) where
           along : (v : ℕ) → v < n → WalkTo (relaxed e d) v
           along v i = elim (relaxed_at e d v (omega (arith, q.0, to_in e h))) [
             | inl r ↦ (let o : WalkTo d e.from = q.1 e.from (from_in e h) in (e ∷ o.0, o.1, (h, sym r.0, o.2), (let f = o.3 in omega (arith, ints))))
-            | inr r ↦ (let o : WalkTo d v = q.1 v i in (o.0, o.1, o.2, r ∙ o.3))
+            | inr r ↦ (let o : WalkTo d v = q.1 v i in (o.0, o.1, o.2, r.0 ∙ o.3))
           ]
 
   -- no walk of at most k edges is lighter than the distance of its end

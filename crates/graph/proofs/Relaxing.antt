@@ -13,12 +13,12 @@ use Rattle.graph.specs.Claims.{StableStays}
 pub relaxed_length : (e : Edge) (d : List ℤ) → length (relaxed e d) ≡ length d
 relaxed_length e d = grind (arith, length-set {A = ℤ})
 
--- an edge lowers its end at most, and to what it allows
-pub relaxed_at : (e : Edge) (d : List ℤ) (v : ℕ) → e.to < length d → ((v ≡ e.to) × (at (relaxed e d) v ≡ through e d)) ⊎ (at (relaxed e d) v ≡ at d v)
+-- an edge lowers its end, to what it allows, or changes nothing, and then its end holds already
+pub relaxed_at : (e : Edge) (d : List ℤ) (v : ℕ) → e.to < length d → ((v ≡ e.to) × (through e d <ℤ at d e.to) × (at (relaxed e d) v ≡ through e d)) ⊎ ((at (relaxed e d) v ≡ at d v) × (v ≡ e.to → at d v ≤ℤ through e d))
 relaxed_at e d v h =
     elim (cases_Bool (lowers e d)) [
-      | inl q ↦ elim (ℕ_discrete v e.to) [ yes s ↦ inl (s, grind (arith, get_or-set_at)) | no f ↦ inr (grind (arith, get_or-set_other)) ]
-      | inr q ↦ inr (grind arith)
+      | inl q ↦ elim (ℕ_discrete v e.to) [ yes s ↦ inl (s, grind (arith, ints), grind (arith, get_or-set_at)) | no f ↦ inr (grind (arith, get_or-set_other), λ s. absurd (f s)) ]
+      | inr q ↦ inr (grind arith, λ s. grind (arith, ints))
     ]
 
 pub relaxed_le : (e : Edge) (d : List ℤ) (v : ℕ) → e.to < length d → at (relaxed e d) v ≤ℤ at d v

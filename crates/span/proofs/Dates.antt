@@ -28,12 +28,11 @@ use Rattle.span.proofs.Rounds.{stored}
 use Rattle.span.proofs.Solutions.{fits_solve, solutions_fit}
 
 -- one seat more is dated
-pub date_next : (d : List ℤ) (ss : List ℕ) (ds : List ℤ) (k : ℕ) → InLimits d 0 → All (InLimits d) ss → k < length ss → ds ≡ from_zero d (take k ss) → ds ++ stored (stored (at d (slice_index ss k)) -ℤ stored (at d 0)) ∷ [] ≡ from_zero d (take (k + 1) ss)
-date_next d ss ds k zeroth each low is =
+pub date_next : (d : List ℤ) (ss : List ℕ) (ds : List ℤ) (k : ℕ) → InLimits d 0 → All (InLimits d) ss → k < length ss → ds ≡ from_zero d (take k ss) → (r : ℤ) → r ≡ at d (slice_index ss k) -ℤ at d 0 → ds ++ stored r ∷ [] ≡ from_zero d (take (k + 1) ss)
+date_next d ss ds k zeroth each low is r date =
     let f : ℕ → ℤ = λ s. at d s -ℤ at d 0 in
     let limits = All-get_or (InLimits d) ss k 0 low each in
-    let x : ℤ = stored (stored (at d (slice_index ss k)) -ℤ stored (at d 0)) in
-    let date : x ≡ f (slice_index ss k) = omega (arith, ints) in
+    let kept : stored r ≡ f (slice_index ss k) = omega (arith, ints) in
     let more = map_more f ss k 0 low in
     cc
 

@@ -1,4 +1,4 @@
--- The loops of `relax_rounds`: what holds before each round and before each edge of a round.
+-- The loops of `lower_distances`: what holds before each round and before each edge of a round.
 use Rattle.std.proofs.Common.{◌≡◌, ℕ, suc, ◌+◌, ◌-◌, ◌*◌, ◌^◌, ◌<◌, ◌≤◌, Bool, true, false, cond, List, length, get_or, drop, set, ℤ, pos, ◌+ℤ◌, neg_ℤ, ◌≤ℤ◌, sym, refl, ap, ◌∙◌, inl, inr, arith, w32, w64, SFits, to_z, of_z}
 use lib.Signed.{lt_z}
 use Rattle.std.proofs.lemmas.List.Elements.{All-get_or}
@@ -93,14 +93,15 @@ module _ {limit : ℕ} {es : List Edge} {r : ℕ} {s : List ℤ} {i : ℕ} {d : 
         (λ k. lt_z (summed_is k) (same k))
 
     -- it lowers its end after all rounds
-    pub unstable_end : AtRound limit es r s → r ≡ limit → is_less (get_or es i none) d y ≡ true → is_stable es (after 32 limit es) ≡ false
+    pub unstable_end : AtRound limit es r s → r ≡ limit → is_less (get_or es i none) d y ≡ true → (d ≡ after 32 limit es) × (is_stable es (after 32 limit es) ≡ false)
     unstable_end at_round end less =
         let off : lowered ≡ false = grind arith in
         let none_left : limit - r ≡ 0 = omega arith in
         let last = ap (λ k. rounds k es s) none_left in
         let rest = at_drop_more (λ fs. is_stable fs s) es i none low in
         let test = less_is in
-        grind arith
+        let made : d ≡ after 32 limit es = at_edge.same off ∙ sym last ∙ at_round.left in
+        (made, grind arith)
 
     -- it has had its turn
     pub edge_done : Within 32 es → (b : Bool) → is_less (get_or es i none) d y ≡ b → (b ≡ true → r < limit) → AtEdge limit es r s (i + 1) (cond b (set d (get_or es i none).to (summed (get_or es i none) d y)) d) (cond b true lowered)

@@ -1,7 +1,8 @@
 // The span engine's dates.
-ghost use Rattle.std.specs.Prelude.{◌≡◌, ◌≤◌, length, All};
+ghost use Rattle.std.specs.Prelude.{◌≡◌, ◌≤◌, ◌-ℤ◌, length, All};
 ghost use Rattle.engine.specs.Dates.{GreatestDates};
 ghost use Rattle.engine.specs.Limits.{max_seats};
+ghost use Rattle.graph.specs.Graph.{at};
 ghost use Rattle.span.specs.Dating.{InLimits, counts_spans, from_zero};
 ghost use Rattle.engine.proofs.Laws.{same_greatest_dates};
 
@@ -12,6 +13,15 @@ use engine::engine::Engine;
 use engine::limits::{MAX_SEATS, MAX_TERMS};
 use sheet::fault::{Cause, Fault};
 
+// The distance of a term, counted from zero's.
+fn date_of(term: u8, distances: &[i64; MAX_TERMS]) -> i64
+    requires zero { InLimits distances.now 0 }
+    requires low { InLimits distances.now term }
+    ensures { result ≡ at distances.now term -ℤ at distances.now 0 }
+{
+    distances[term as usize] - distances[0]
+}
+
 // The distance of each seat's term, counted from zero's.
 fn dates_from_distances(seats: &[u8], distances: &[i64; MAX_TERMS]) -> ArrayVec<i64, MAX_SEATS>
     requires few { length seats.now ≤ max_seats }
@@ -21,7 +31,7 @@ fn dates_from_distances(seats: &[u8], distances: &[i64; MAX_TERMS]) -> ArrayVec<
 {
     let mut dates = ArrayVec::new();
     for term in seats {
-        dates.push(distances[*term as usize] - distances[0]);
+        dates.push(date_of(*term, distances));
     }
     dates
 }

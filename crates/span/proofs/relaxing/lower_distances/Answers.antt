@@ -1,10 +1,10 @@
-use Rattle.std.proofs.Common.{◌+◌, ◌*◌, ◌≤◌, true, false, get_or, refl, arith, w32, SFits, rules}
+use Rattle.std.proofs.Common.{◌+◌, ◌*◌, ◌≤◌, true, false, get_or, sym, refl, arith, w32, SFits, rules}
 use Rattle.span.proofs.Rounds.{none, first_round, next_round, stable_end, unstable_end, edge_done}
-use Rattle.span.proofs.relaxing.relax_rounds.Goals as goal
-use Rattle.span.proofs.relaxing.relax_rounds.Goals.{then-through-distances+else-round-limit, else-through-distances}
+use Rattle.span.proofs.relaxing.lower_distances.Goals as goal
+use Rattle.span.proofs.relaxing.lower_distances.Goals.{then-through-distances+else-round-limit, else-through-distances}
 
 pub rounds-init : goal.rounds-init
-rounds-init c = (first_round c.args.limit c.args.edges.now, refl)
+rounds-init c = (rw c.requires.start (first_round c.args.limit c.args.edges.now), refl)
 
 pub loop-edge-preserved : goal.loop-edge-preserved
 loop-edge-preserved c =
@@ -25,9 +25,9 @@ returns-then-round-limit c =
     let small : 128 * c.rounds.round + c.loop-edge.edge-index ≤ 1152 = omega arith in
     let fits : SFits w32 (get_or c.args.edges.now c.loop-edge.edge-index none).weight = search rules in
     let unstable = unstable_end c.loop-edge.invariant small c.loop-edge-test.true fits c.from.result c.from.ensures c.rounds.invariant.0 c.if-round-limit.true c.if-through-distances.true in
-    rw unstable c.rounds.invariant.1
+    record { made = unstable.0; told = rw unstable.1 c.rounds.invariant.1 }
 
 pub returns-then-not-lowered : goal.returns-then-not-lowered
 returns-then-not-lowered c =
     let end = stable_end c.loop-edge.invariant c.rounds.invariant.0 c.loop-edge-test.false c.if-not-lowered.true in
-    rw (end.1, end.0) refl
+    record { made = sym end.0; told = rw end.1 refl }
